@@ -1,0 +1,11 @@
+pub mod Ticks
+pub mod Counts
+pub mod Queue
+pub mod Capacity
+pub mod Runs
+pub mod Adding
+pub mod Cutting
+pub mod Providing
+pub mod Serving
+pub mod Fitting
+pub mod Examples

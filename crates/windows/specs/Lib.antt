@@ -1,0 +1,4 @@
+pub mod Windows
+pub mod Servers
+pub mod Walks
+pub mod Examples

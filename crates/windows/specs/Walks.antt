@@ -1,0 +1,45 @@
+-- How the code goes about it, where that is not document 01's own way: the contracts of private functions cite this, those of the public
+-- calls do not. Laws in proofs/ join each to 01's definition.
+use Prim.Native.Nat.{ℕ, suc, _+_, _-_, max}
+use mathlib.Core.List.{List, [], _∷_}
+use lib.Dec.{leb}
+use Rattle.windows.specs.Windows.{pick, parted, cutAt, Instant, at, notProvided}
+
+-- ---- adding up: the windows of both in order, each joined to the open one if it starts in time
+
+-- a window put among windows in the order of their starts
+unfoldable pub place : ℕ → ℕ → List ℕ → List ℕ
+place s e [] = s ∷ (e ∷ [])
+place s e (a ∷ []) = s ∷ (e ∷ (a ∷ []))
+place s e (a ∷ (b ∷ r)) = pick (leb a s) (a ∷ (b ∷ place s e r)) (s ∷ (e ∷ (a ∷ (b ∷ r))))
+
+-- the windows of both, in the order of their starts
+unfoldable pub merge : List ℕ → List ℕ → List ℕ
+merge l [] = l
+merge l (s ∷ []) = l
+merge l (s ∷ (e ∷ r)) = place s e (merge l r)
+
+-- work is being done from s to f, and the windows bring more
+unfoldable pub grow : ℕ → ℕ → List ℕ → List ℕ
+grow s f [] = s ∷ (f ∷ [])
+grow s f (a ∷ []) = s ∷ (f ∷ [])
+grow s f (a ∷ (b ∷ r)) = pick (leb a f) (grow s (f + (b - a)) r) (s ∷ (f ∷ grow a b r))
+
+unfoldable pub grown : List ℕ → List ℕ
+grown [] = []
+grown (a ∷ []) = []
+grown (a ∷ (b ∷ r)) = grow a b r
+
+-- ---- time to provide: window after window
+
+unfoldable pub walk : List ℕ → ℕ → Instant
+walk [] n = notProvided
+walk (s ∷ []) n = notProvided
+walk (s ∷ (e ∷ r)) n = pick (leb n (e - s)) (at (s + n)) (walk r (n - (e - s)))
+
+-- ---- cutting: from the instant `from` in the first window on
+
+unfoldable pub cutFrom : ℕ → ℕ → List ℕ → List ℕ
+cutFrom T from [] = []
+cutFrom T from (s ∷ []) = []
+cutFrom T from (s ∷ (e ∷ r)) = parted T (max s from) (suc (max s from)) (e - suc (max s from)) (cutAt T r)
