@@ -9,7 +9,7 @@ use lib.Dec.{leb}
 use borrow.Author.Tests.{leb-true, leb-false, le-leb, lt-leb}
 use Rattle.windows.specs.Windows.{pick, inside, cover, size, endOf, isPlain, upto, waiting, done, always, windowsOf, addUp, _⊕_}
 use Rattle.windows.specs.Walks.{place, merge, grow, grown}
-use Rattle.windows.proofs.Ticks.{inside-yes, inside-early, inside-late, inside-one, inside-is, Apart, apart-lower, cover-before, cover-after, cover-one, apart-plain}
+use Rattle.windows.proofs.Ticks.{inside-yes, inside-early, inside-late, inside-one, inside-is, Apart, apart-lower, cover-before, cover-after, cover-one, end-above, apart-plain}
 use Rattle.windows.proofs.Counts.{upto-⊕, upto-inside, count-inside, count-all}
 use Rattle.windows.proofs.Queue.{none, smooth, smooth-one, smooth-absorbed, smooth-units, Serves, serves-done, waiting-count, done-quiet, done-over}
 use Rattle.windows.proofs.Runs.{runs-apart, runs-end, windows-cover, windows-only}
@@ -144,6 +144,19 @@ grow-apart lo s f (a ∷ (b ∷ r)) k h o = go (leb a f) refl (grow-apart lo s (
         → (suc f ≤ a → a < b → Sorted a r → Apart (suc f) (grow a b r)) → Apart lo (pick x (grow s (f + (b - a)) r) (s ∷ (f ∷ grow a b r)))
     go true p i j = i (omega arith) (sorted-lower a s r (o .0) (o .2))
     go false p i j = (k, h, j (leb-false a f p) (o .1) (o .2))
+
+-- an end above a bound stays above it
+pub grow-over : (hi s f : ℕ) (l : List ℕ) → s < f → Sorted s l → hi < f → hi < endOf (grow s f l)
+unfolding grow endOf
+grow-over hi s f [] k o h = h
+grow-over hi s f (a ∷ []) k o h = h
+grow-over hi s f (a ∷ (b ∷ r)) k o h = go (leb a f) refl (grow-over hi s (f + (b - a)) r)
+  where
+    go : (x : Bool) → leb a f ≡ x → (s < f + (b - a) → Sorted s r → hi < f + (b - a) → hi < endOf (grow s (f + (b - a)) r))
+        → hi < endOf (pick x (grow s (f + (b - a)) r) (s ∷ (f ∷ grow a b r)))
+    go true p i = i (omega arith) (sorted-lower a s r (o .0) (o .2)) (omega arith)
+    go false p i =
+        omega (arith, end-above s s f (grow a b r) (omega arith, k, grow-apart (suc f) a b r (leb-false a f p) (o .1) (o .2)))
 
 grown-cover : (l : List ℕ) → Sorted 0 l → cover (grown l) ≡ smooth (cover l)
 unfolding cover grown

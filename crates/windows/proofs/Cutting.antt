@@ -8,9 +8,9 @@ use native.Mathlib.Nat.{mod-lt, mod-eq-of-lt, mod-self, suc-mod, add-suc, add-ze
 use native.Mathlib.Decide.{decLt, ℕ-discrete}
 use lib.Dec.{eqb}
 use borrow.Author.Tests.{eqb-true, eqb-false, eq-eqb, ne-eqb}
-use Rattle.windows.specs.Windows.{pick, inside, cover, parted, cutAt, _⊕_}
+use Rattle.windows.specs.Windows.{pick, inside, cover, endOf, parted, cutAt, _⊕_}
 use Rattle.windows.specs.Walks.{cutFrom}
-use Rattle.windows.proofs.Ticks.{Apart, inside-split}
+use Rattle.windows.proofs.Ticks.{Apart, inside-split, end-above, end-rest}
 
 -- ---- from a on the next multiple of T is at a + (T - a % T)
 
@@ -145,3 +145,27 @@ unfolding cutAt
 cut-uncut T [] = tt
 cut-uncut T (s ∷ []) = tt
 cut-uncut T (s ∷ (e ∷ r)) = parted-uncut T s (suc s) (e - suc s) (cutAt T r) (λ u h₁ h₂. absurd (omega arith)) (cut-uncut T r)
+
+-- ---- a cut curve ends where the curve does, or before
+
+end-pair : (a b hi : ℕ) (r : List ℕ) → b ≤ hi → endOf r ≤ hi → endOf (a ∷ (b ∷ r)) ≤ hi
+unfolding endOf
+end-pair a b hi [] h k = h
+end-pair a b hi (x ∷ r) h k = k
+
+parted-end : (T a m k hi : ℕ) (rest : List ℕ) → m + k ≤ hi → endOf rest ≤ hi → endOf (parted T a m k rest) ≤ hi
+unfolding parted
+parted-end T a m zero hi rest h l = end-pair a m hi rest (omega arith) l
+parted-end T a m (suc k) hi rest h l = go (eqb (m % T) 0) (parted-end T m (suc m) k hi rest (omega arith) l) (parted-end T a (suc m) k hi rest (omega arith) l)
+  where
+    go : (b : Bool) → endOf (parted T m (suc m) k rest) ≤ hi → endOf (parted T a (suc m) k rest) ≤ hi
+        → endOf (pick b (a ∷ (m ∷ parted T m (suc m) k rest)) (parted T a (suc m) k rest)) ≤ hi
+    go true i j = end-pair a m hi (parted T m (suc m) k rest) (omega arith) i
+    go false i j = j
+
+pub cut-end : (T lo hi : ℕ) (l : List ℕ) → Apart lo l → endOf l ≤ hi → endOf (cutAt T l) ≤ hi
+unfolding cutAt
+cut-end T lo hi [] p h = h
+cut-end T lo hi (s ∷ []) p h = absurd p
+cut-end T lo hi (s ∷ (e ∷ r)) p h =
+    parted-end T s (suc s) (e - suc s) hi (cutAt T r) (omega (arith, end-above lo s e r p)) (cut-end T (suc e) hi r (p .2) (omega (arith, end-rest lo s e r p)))

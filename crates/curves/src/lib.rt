@@ -1,0 +1,135 @@
+// The four calls on curves: adding up, cutting, fitting, time to provide. A curve is lent as a flat slice of its windows' starts and
+// ends. Any slice and any number may be handed in; a bad one is refused, and a refused call changes nothing that was lent.
+mod adding;
+mod cutting;
+
+ghost use mathlib.Core.Path.{_≡_};
+ghost use mathlib.Core.Bool.{true};
+ghost use Prim.Native.Nat.{_<_, max};
+ghost use Rattle.windows.specs.Windows.{isPlain, addUp, cutAt};
+ghost use Rattle.curves.specs.Refusals.{writtenOf, providedOf, addOutcome, cutOutcome, provideOutcome, lent};
+
+// The largest end that a plain curve may have.
+pub const LIMIT: u32 = 1_000_000;
+
+// Why a call is refused.
+pub enum Ground {
+    ArgumentZero,
+    NotPlain,
+    NoRoom,
+}
+
+// How many numbers a call wrote to the front of the lent buffer.
+pub enum Written {
+    Count(usize),
+    Refused(Ground),
+}
+
+// When a curve has given the amount asked for.
+pub enum Provided {
+    At(u32),
+    NotProvided,
+    Refused(Ground),
+}
+
+// How many numbers fitting wrote: supply left, served, demand left.
+pub enum Fitted {
+    Counts(usize, usize, usize),
+    Refused(Ground),
+}
+
+// The larger of two numbers.
+fn larger(a: u32, b: u32) -> u32
+    ensures { λ r. ⌜ r ≡ max a b ⌝ }
+{
+    if a < b { b } else { a }
+}
+
+// Whether a curve is plain: an even length, each start below its end, each end below the next start, no end above LIMIT.
+pub fn plain(curve: &[u32]) -> bool
+    ensures { λ r. ⌜ r ≡ isPlain (now (curve .entry)) ⌝ }
+{
+    let mut low: u32 = 0;
+    let mut i: usize = 0;
+    while i < curve.len() {
+        if curve.len() - i < 2 {
+            return false;
+        }
+        let s = curve[i];
+        let e = curve[i + 1];
+        if s < low {
+            return false;
+        }
+        if e <= s {
+            return false;
+        }
+        if LIMIT < e {
+            return false;
+        }
+        low = e + 1;
+        i += 2;
+    }
+    true
+}
+
+// Adds up two curves: the ticks at which work is done when each tick of either brings one unit and one is done per tick.
+pub fn add(a: &[u32], b: &[u32], out: &mut [u32]) -> Written
+    ensures { λ r. ⌜ writtenOf r ≡ addOutcome (now (a .entry)) (now (b .entry)) (now (out .entry)) ⌝ }
+    ensures { λ r. ⌜ now (out .exit)
+        ≡ lent (addOutcome (now (a .entry)) (now (b .entry)) (now (out .entry))) (addUp (now (a .entry)) (now (b .entry))) (now (out .entry)) ⌝ }
+{
+    if !plain(a) {
+        return Written::Refused(Ground::NotPlain);
+    }
+    if !plain(b) {
+        return Written::Refused(Ground::NotPlain);
+    }
+    if !adding::fits(a, b, out.len()) {
+        return Written::Refused(Ground::NoRoom);
+    }
+    Written::Count(adding::write(a, b, out))
+}
+
+// Cuts a curve at every multiple of a period strictly inside one of its windows.
+pub fn cut(curve: &[u32], period: u32, out: &mut [u32]) -> Written
+    ensures { λ r. ⌜ writtenOf r ≡ cutOutcome (now (curve .entry)) period (now (out .entry)) ⌝ }
+    ensures { λ r. ⌜ now (out .exit)
+        ≡ lent (cutOutcome (now (curve .entry)) period (now (out .entry))) (cutAt period (now (curve .entry))) (now (out .entry)) ⌝ }
+{
+    if period == 0 {
+        return Written::Refused(Ground::ArgumentZero);
+    }
+    if !plain(curve) {
+        return Written::Refused(Ground::NotPlain);
+    }
+    if !cutting::fits(curve, period, out.len()) {
+        return Written::Refused(Ground::NoRoom);
+    }
+    Written::Count(cutting::write(curve, period, out))
+}
+
+// When a curve has given `amount` ticks.
+pub fn time_to_provide(curve: &[u32], amount: u32) -> Provided
+    ensures { λ r. ⌜ providedOf r ≡ provideOutcome (now (curve .entry)) amount ⌝ }
+{
+    if amount == 0 {
+        return Provided::Refused(Ground::ArgumentZero);
+    }
+    if !plain(curve) {
+        return Provided::Refused(Ground::NotPlain);
+    }
+    let mut left = amount;
+    let mut i: usize = 0;
+    loop {
+        if curve.len() <= i {
+            break Provided::NotProvided;
+        }
+        let s = curve[i];
+        let e = curve[i + 1];
+        if left <= e - s {
+            break Provided::At(s + left);
+        }
+        left -= e - s;
+        i += 2;
+    }
+}
