@@ -11,6 +11,8 @@ use Rattle.curves.specs.declared.Written.{Written}
 use Rattle.curves.specs.declared.Written.the-variants as written
 use Rattle.curves.specs.declared.Provided.{Provided}
 use Rattle.curves.specs.declared.Provided.the-variants as provided
+use Rattle.curves.specs.declared.Fitted.{Fitted}
+use Rattle.curves.specs.declared.Fitted.the-variants as fitted
 
 -- "A refusal hands back number and line only"
 pub data Outcome (A : Type 0) : Type 0 where
@@ -33,6 +35,16 @@ providedOf (provided.At t) = answer (at t)
 providedOf provided.NotProvided = answer notProvided
 providedOf (provided.Refused ground) = refused (numberOf ground) 0
 
+-- how many numbers each of fitting's results has
+pub record Lengths : Type 0 where
+  pub left : ℕ
+  pub served : ℕ
+  pub rest : ℕ
+
+abbrev pub fittedOf : Fitted → Outcome Lengths
+fittedOf (fitted.Counts l s r) = answer (record { left = l; served = s; rest = r })
+fittedOf (fitted.Refused ground) = refused (numberOf ground) 0
+
 -- ---- the outcome of each call: "Curve calls: 12, 10, 11"
 
 -- a result that needs no more than the room lent, and ends at 1,000,000 or before
@@ -51,6 +63,19 @@ cutOutcome curve T out = pick (eqb T 0) (refused 12 0) (pick (isPlain curve) (wr
 
 abbrev pub provideOutcome : List ℕ → ℕ → Outcome Instant
 provideOutcome curve n = pick (eqb n 0) (refused 12 0) (pick (isPlain curve) (answer (provide curve n)) (refused 10 0))
+
+abbrev pub lengthsOf : Fit → Lengths
+lengthsOf o = record { left = length (o .left); served = length (o .served); rest = length (o .rest) }
+
+-- each result has its own buffer
+abbrev pub fitsAll : Fit → ℕ → ℕ → ℕ → Bool
+fitsAll o left served rest = fitsIn (o .left) left && (fitsIn (o .served) served && fitsIn (o .rest) rest)
+
+abbrev pub fitOutcome : List ℕ → List ℕ → List ℕ → List ℕ → List ℕ → Outcome Lengths
+fitOutcome demand supply left served rest =
+    pick (isPlain demand && isPlain supply)
+    (pick (fitsAll (fit demand supply) (length left) (length served) (length rest)) (answer (lengthsOf (fit demand supply))) (refused 11 0))
+    (refused 10 0)
 
 -- ---- the buffer afterwards
 

@@ -1,5 +1,6 @@
 // Adding up, a window at a time: one step, a walk that counts and a walk that writes.
 use crate::LIMIT;
+use crate::put;
 ghost use mathlib.Core.Path.{_≡_};
 ghost use mathlib.Core.Bool.{true};
 ghost use lib.ListN.{length};
@@ -123,9 +124,7 @@ pub fn write(a: &[u32], b: &[u32], out: &mut [u32]) -> usize
                 return n;
             }
             Piece::Window(s, e, next) => {
-                out[n] = s;
-                out[n + 1] = e;
-                n += 2;
+                n = put(out, n, s, e);
                 place = next;
             }
         }

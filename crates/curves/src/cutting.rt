@@ -1,5 +1,6 @@
 // Cutting, a piece at a time: one step, a walk that counts and a walk that writes.
 use crate::larger;
+use crate::put;
 ghost use mathlib.Core.Path.{_≡_};
 ghost use mathlib.Core.Bool.{true};
 ghost use Prim.Native.Nat.{_<_, _≤_};
@@ -92,9 +93,7 @@ pub fn write(curve: &[u32], period: u32, out: &mut [u32]) -> usize
                 return n;
             }
             Piece::Window(s, e, next) => {
-                out[n] = s;
-                out[n + 1] = e;
-                n += 2;
+                n = put(out, n, s, e);
                 place = next;
             }
         }

@@ -2,12 +2,14 @@
 // ends. Any slice and any number may be handed in; a bad one is refused, and a refused call changes nothing that was lent.
 mod adding;
 mod cutting;
+mod fitting;
 
 ghost use mathlib.Core.Path.{_≡_};
 ghost use mathlib.Core.Bool.{true};
-ghost use Prim.Native.Nat.{_<_, max};
-ghost use Rattle.windows.specs.Windows.{isPlain, addUp, cutAt};
-ghost use Rattle.curves.specs.Refusals.{writtenOf, providedOf, addOutcome, cutOutcome, provideOutcome, lent};
+ghost use Prim.Native.Nat.{_+_, _<_, max};
+ghost use lib.ListN.{length, set};
+ghost use Rattle.windows.specs.Windows.{isPlain, addUp, cutAt, fit};
+ghost use Rattle.curves.specs.Refusals.{writtenOf, providedOf, fittedOf, addOutcome, cutOutcome, provideOutcome, fitOutcome, lent};
 
 // The largest end that a plain curve may have.
 pub const LIMIT: u32 = 1_000_000;
@@ -43,6 +45,16 @@ fn larger(a: u32, b: u32) -> u32
     ensures { λ r. ⌜ r ≡ max a b ⌝ }
 {
     if a < b { b } else { a }
+}
+
+// Writes a window at place `n` of a buffer, and answers the place behind it.
+fn put(out: &mut [u32], n: usize, s: u32, e: u32) -> usize
+    requires { ⌜ n + 1 < length (now out) ⌝ }
+    ensures { λ r. ⌜ (r ≡ n + 2) × (now (out .exit) ≡ set (set (now (out .entry)) n s) (n + 1) e) ⌝ }
+{
+    out[n] = s;
+    out[n + 1] = e;
+    n + 2
 }
 
 // Whether a curve is plain: an even length, each start below its end, each end below the next start, no end above LIMIT.
@@ -106,6 +118,39 @@ pub fn cut(curve: &[u32], period: u32, out: &mut [u32]) -> Written
         return Written::Refused(Ground::NoRoom);
     }
     Written::Count(cutting::write(curve, period, out))
+}
+
+// Fits a demand into a supply: what is left of the supply, what is served, and what is left of the demand.
+pub fn fit(
+    demand: &[u32],
+    supply: &[u32],
+    left: &mut [u32],
+    served: &mut [u32],
+    rest: &mut [u32],
+) -> Fitted
+    ensures { λ r. ⌜ fittedOf r
+        ≡ fitOutcome (now (demand .entry)) (now (supply .entry)) (now (left .entry)) (now (served .entry)) (now (rest .entry)) ⌝ }
+    ensures { λ r. ⌜ now (left .exit)
+        ≡ lent (fitOutcome (now (demand .entry)) (now (supply .entry)) (now (left .entry)) (now (served .entry)) (now (rest .entry)))
+        (fit (now (demand .entry)) (now (supply .entry)) .left) (now (left .entry)) ⌝ }
+    ensures { λ r. ⌜ now (served .exit)
+        ≡ lent (fitOutcome (now (demand .entry)) (now (supply .entry)) (now (left .entry)) (now (served .entry)) (now (rest .entry)))
+        (fit (now (demand .entry)) (now (supply .entry)) .served) (now (served .entry)) ⌝ }
+    ensures { λ r. ⌜ now (rest .exit)
+        ≡ lent (fitOutcome (now (demand .entry)) (now (supply .entry)) (now (left .entry)) (now (served .entry)) (now (rest .entry)))
+        (fit (now (demand .entry)) (now (supply .entry)) .rest) (now (rest .entry)) ⌝ }
+{
+    if !plain(demand) {
+        return Fitted::Refused(Ground::NotPlain);
+    }
+    if !plain(supply) {
+        return Fitted::Refused(Ground::NotPlain);
+    }
+    if !fitting::fits(demand, supply, left.len(), served.len(), rest.len()) {
+        return Fitted::Refused(Ground::NoRoom);
+    }
+    let n = fitting::write(demand, supply, left, served, rest);
+    Fitted::Counts(n.left, n.served, n.rest)
 }
 
 // When a curve has given `amount` ticks.

@@ -68,6 +68,7 @@ fit-bound (suc k) (suc m) (qs ∷ (qe ∷ d)) (ps ∷ (pe ∷ s)) h i =
 
 -- any bound that is large enough gives the fitting
 fit-any : (k : ℕ) (d s : List ℕ) → length d + length s ≤ k → fitIn k d s ≡ fit d s
+unfolding fit
 fit-any k d s h = fit-bound k (length d + length s) d s h (omega arith)
 
 -- ---- fitting, a step at a time
@@ -230,6 +231,7 @@ fitted-in (suc k) (qs ∷ (qe ∷ d)) (ps ∷ (pe ∷ s)) ld lo p q h =
         (shorter qs qe a pe k d s (omega arith)))
 
 pub fitted : (d s : List ℕ) (ld lo : ℕ) → Apart ld d → Apart lo s → Fitted d s ld lo (fit d s)
+unfolding fit
 fitted d s ld lo p q = fitted-in (length d + length s) d s ld lo p q (omega arith)
 
 -- ---- of plain curves

@@ -9,3 +9,4 @@ pub mod Providing
 pub mod Serving
 pub mod Fitting
 pub mod Examples
+pub mod Stretching

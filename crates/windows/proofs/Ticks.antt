@@ -161,6 +161,10 @@ plain-front low s e r q =
       rest = and-right (leb e 1000000) (plainFrom (e + 1) r) q₂;
     }
 
+pub front-plain : (low s e : ℕ) (r : List ℕ) → Front low s e r → plainFrom low (s ∷ (e ∷ r)) ≡ true
+unfolding plainFrom
+front-plain low s e r f = rw (le-leb low s (f .after), lt-ltb s e (f .rises), le-leb e 1000000 (f .bounded)) (f .rest)
+
 pub not-odd : (low s : ℕ) → plainFrom low (s ∷ []) ≡ true → ⊥
 unfolding plainFrom
 not-odd low s h = let z : _≡_ {A = ℕ} 0 1 = cc in omega arith

@@ -2,8 +2,8 @@
 -- calls do not. Laws in proofs/ join each to 01's definition.
 use Prim.Native.Nat.{ℕ, suc, _+_, _-_, max}
 use mathlib.Core.List.{List, [], _∷_}
-use lib.Dec.{leb}
-use Rattle.windows.specs.Windows.{pick, parted, cutAt, Instant, at, notProvided}
+use lib.Dec.{leb, ltb}
+use Rattle.windows.specs.Windows.{pick, join, parted, cutAt, Fit, Instant, at, notProvided}
 
 -- ---- adding up: the windows of both in order, each joined to the open one if it starts in time
 
@@ -43,3 +43,21 @@ unfoldable pub cutFrom : ℕ → ℕ → List ℕ → List ℕ
 cutFrom T from [] = []
 cutFrom T from (s ∷ []) = []
 cutFrom T from (s ∷ (e ∷ r)) = parted T (max s from) (suc (max s from)) (e - suc (max s from)) (cutAt T r)
+
+-- ---- fitting: what is left of the first windows, and a piece of one of the three results put in front
+
+-- a curve whose first window starts at q, if it started before
+unfoldable pub raise : ℕ → List ℕ → List ℕ
+raise q [] = []
+raise q (s ∷ []) = s ∷ []
+raise q (s ∷ (e ∷ r)) = max s q ∷ (e ∷ r)
+
+abbrev pub servedFirst : ℕ → ℕ → Fit → Fit
+servedFirst a b o = record { left = o .left; served = a ∷ (b ∷ o .served); rest = o .rest }
+
+abbrev pub restFirst : ℕ → ℕ → Fit → Fit
+restFirst a b o = record { left = o .left; served = o .served; rest = a ∷ (b ∷ o .rest) }
+
+-- a served window that is open from a to b, if it is not empty
+abbrev pub openFirst : ℕ → ℕ → Fit → Fit
+openFirst a b o = record { left = o .left; served = pick (ltb a b) (join a b (o .served)) (o .served); rest = o .rest }

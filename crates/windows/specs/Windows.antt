@@ -141,7 +141,7 @@ fitIn (suc k) (qs ∷ (qe ∷ d)) (ps ∷ (pe ∷ s)) =
     let next = fitIn k (window (qs + n) qe d) (window (a + n) pe s) in
     pick (leb pe qs) (passed ps pe later) (part ps a n next)
 
-abbrev pub fit : List ℕ → List ℕ → Fit
+unfoldable pub fit : List ℕ → List ℕ → Fit
 fit d s = fitIn (length d + length s) d s
 
 -- ---- time to provide

@@ -5,7 +5,7 @@ use mathlib.Core.Path.{_≡_, refl, sym, ap, _∙_}
 use mathlib.Core.Bool.{true, false, _&&_}
 use native.Mathlib.Omega.{arith}
 use borrow.Author.Tests.{leb-true}
-use lib.ListN.{length, length-set}
+use lib.ListN.{length}
 use lib.Dec.{leb}
 use Rattle.windows.specs.Windows.{addUp, endOf}
 use Rattle.windows.proofs.Ticks.{plain-apart, and-left, and-right}
@@ -69,32 +69,18 @@ returns-2 c =
 enum-known-s : tie.Need-enum-known-s Inv-loop μ-loop
 enum-known-s c = search needs
 
-mul-out : tie.Need-mul-out Inv-loop μ-loop
-mul-out c = omega (arith, room c)
-
-slice-write-out : tie.Need-slice-write-out Inv-loop μ-loop
-slice-write-out c = omega (arith, room c)
-
-add-out : tie.Need-add-out Inv-loop μ-loop
-add-out c = omega (arith, room c)
-
-mul-out-2 : tie.Need-mul-out-2 Inv-loop μ-loop
-mul-out-2 c = omega (arith, room c)
-
-slice-write-out-2 : tie.Need-slice-write-out-2 Inv-loop μ-loop
-slice-write-out-2 c = simp length-set (room c)
-
-add-n : tie.Need-add-n Inv-loop μ-loop
-add-n c = omega (arith, room c)
+put-requires : tie.Need-put-requires Inv-loop μ-loop
+put-requires c κs = room (c .before)
 
 loop-less : tie.Need-loop-less Inv-loop μ-loop
-loop-less c = omega (arith, ap length (step (c .before) .is))
+loop-less c = omega (arith, ap length (step (c .before .before .before .before .before) .is))
 
 loop-again : tie.Need-loop-again Inv-loop μ-loop
 loop-again c =
-    let k = step (c .before) in
-    let inv = c .before .before .before .before .loop .inv in
-    (k .plain, written-pair (inv .1) (k .is), sym (ends-pair (k .is) (k .bounded)) ∙ inv .2)
+    let k = step (c .before .before .before .before .before) in
+    let inv = c .before .before .before .before .before .before .before .before .loop .inv in
+    let e = c .before .before .put .ensures in
+    (k .plain, rw (e .0, e .1) (written-pair (inv .1) (k .is)), sym (ends-pair (k .is) (k .bounded)) ∙ inv .2)
 
 pub write-spec : {M : Type 1} → statement M
 write-spec =
@@ -111,11 +97,6 @@ write-spec =
     same-length-2
     returns-2
     enum-known-s
-    mul-out
-    slice-write-out
-    add-out
-    mul-out-2
-    slice-write-out-2
-    add-n
+    put-requires
     loop-less
     loop-again)

@@ -3,7 +3,7 @@
 use Prim.Native.Nat.{ℕ, _+_, _<_, _≤_}
 use mathlib.Core.Path.{_≡_, refl, sym, ap, _∙_}
 use native.Mathlib.Omega.{arith}
-use lib.ListN.{length, length-set}
+use lib.ListN.{length}
 use Rattle.windows.specs.Windows.{cutAt}
 use Rattle.windows.proofs.Cutting.{cut-start}
 use Rattle.curves.specs.Steps.{cutAhead, InCurve}
@@ -45,33 +45,19 @@ returns c = written-all (c .before .before .before .loop .inv .1) (rw (c .enum-t
 enum-known-s : tie.Need-enum-known-s Inv-loop μ-loop
 enum-known-s c = search needs
 
-mul-out : tie.Need-mul-out Inv-loop μ-loop
-mul-out c = omega (arith, room c)
-
-slice-write-out : tie.Need-slice-write-out Inv-loop μ-loop
-slice-write-out c = omega (arith, room c)
-
-add-out : tie.Need-add-out Inv-loop μ-loop
-add-out c = omega (arith, room c)
-
-mul-out-2 : tie.Need-mul-out-2 Inv-loop μ-loop
-mul-out-2 c = omega (arith, room c)
-
-slice-write-out-2 : tie.Need-slice-write-out-2 Inv-loop μ-loop
-slice-write-out-2 c = simp length-set (room c)
-
-add-n : tie.Need-add-n Inv-loop μ-loop
-add-n c = omega (arith, room c)
+put-requires : tie.Need-put-requires Inv-loop μ-loop
+put-requires c κs = room (c .before)
 
 loop-less : tie.Need-loop-less Inv-loop μ-loop
 loop-less c =
-    let k = rw (c .before .s .given .1) at (c .before .before .before .next .ensures) in
+    let k = rw (c .before .before .before .before .before .s .given .1) at (c .before .before .before .before .before .before .before .next .ensures) in
     omega (arith, ap length (k .0))
 
 loop-again : tie.Need-loop-again Inv-loop μ-loop
 loop-again c =
-    let k = rw (c .before .s .given .1) at (c .before .before .before .next .ensures) in
-    (k .1, written-pair (c .before .before .before .before .loop .inv .1) (k .0))
+    let k = rw (c .before .before .before .before .before .s .given .1) at (c .before .before .before .before .before .before .before .next .ensures) in
+    let e = c .before .before .put .ensures in
+    (k .1, rw (e .0, e .1) (written-pair (c .before .before .before .before .before .before .before .before .loop .inv .1) (k .0)))
 
 pub write-spec : {M : Type 1} → statement M
 write-spec =
@@ -85,11 +71,6 @@ write-spec =
     same-length
     returns
     enum-known-s
-    mul-out
-    slice-write-out
-    add-out
-    mul-out-2
-    slice-write-out-2
-    add-n
+    put-requires
     loop-less
     loop-again)
