@@ -4,3 +4,4 @@ pub mod Sums
 pub mod Stretches
 pub mod Pieces
 pub mod Fittings
+pub mod Outcomes

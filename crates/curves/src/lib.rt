@@ -8,8 +8,8 @@ ghost use mathlib.Core.Path.{_≡_};
 ghost use mathlib.Core.Bool.{true};
 ghost use Prim.Native.Nat.{_+_, _<_, max};
 ghost use lib.ListN.{length, set};
-ghost use Rattle.windows.specs.Windows.{isPlain, addUp, cutAt, fit};
-ghost use Rattle.curves.specs.Refusals.{writtenOf, providedOf, fittedOf, addOutcome, cutOutcome, provideOutcome, fitOutcome, lent};
+ghost use Rattle.windows.specs.Windows.{isPlain};
+ghost use Rattle.curves.specs.Calls.{Adds, Cuts, Fits, Provides};
 
 // The largest end that a plain curve may have.
 pub const LIMIT: u32 = 1_000_000;
@@ -86,9 +86,7 @@ pub fn plain(curve: &[u32]) -> bool
 
 // Adds up two curves: the ticks at which work is done when each tick of either brings one unit and one is done per tick.
 pub fn add(a: &[u32], b: &[u32], out: &mut [u32]) -> Written
-    ensures { λ r. ⌜ writtenOf r ≡ addOutcome (now (a .entry)) (now (b .entry)) (now (out .entry)) ⌝ }
-    ensures { λ r. ⌜ now (out .exit)
-        ≡ lent (addOutcome (now (a .entry)) (now (b .entry)) (now (out .entry))) (addUp (now (a .entry)) (now (b .entry))) (now (out .entry)) ⌝ }
+    ensures { λ r. ⌜ Adds (now (a .entry)) (now (b .entry)) (now (out .entry)) r (now (out .exit)) ⌝ }
 {
     if !plain(a) {
         return Written::Refused(Ground::NotPlain);
@@ -104,9 +102,7 @@ pub fn add(a: &[u32], b: &[u32], out: &mut [u32]) -> Written
 
 // Cuts a curve at every multiple of a period strictly inside one of its windows.
 pub fn cut(curve: &[u32], period: u32, out: &mut [u32]) -> Written
-    ensures { λ r. ⌜ writtenOf r ≡ cutOutcome (now (curve .entry)) period (now (out .entry)) ⌝ }
-    ensures { λ r. ⌜ now (out .exit)
-        ≡ lent (cutOutcome (now (curve .entry)) period (now (out .entry))) (cutAt period (now (curve .entry))) (now (out .entry)) ⌝ }
+    ensures { λ r. ⌜ Cuts (now (curve .entry)) period (now (out .entry)) r (now (out .exit)) ⌝ }
 {
     if period == 0 {
         return Written::Refused(Ground::ArgumentZero);
@@ -128,17 +124,8 @@ pub fn fit(
     served: &mut [u32],
     rest: &mut [u32],
 ) -> Fitted
-    ensures { λ r. ⌜ fittedOf r
-        ≡ fitOutcome (now (demand .entry)) (now (supply .entry)) (now (left .entry)) (now (served .entry)) (now (rest .entry)) ⌝ }
-    ensures { λ r. ⌜ now (left .exit)
-        ≡ lent (fitOutcome (now (demand .entry)) (now (supply .entry)) (now (left .entry)) (now (served .entry)) (now (rest .entry)))
-        (fit (now (demand .entry)) (now (supply .entry)) .left) (now (left .entry)) ⌝ }
-    ensures { λ r. ⌜ now (served .exit)
-        ≡ lent (fitOutcome (now (demand .entry)) (now (supply .entry)) (now (left .entry)) (now (served .entry)) (now (rest .entry)))
-        (fit (now (demand .entry)) (now (supply .entry)) .served) (now (served .entry)) ⌝ }
-    ensures { λ r. ⌜ now (rest .exit)
-        ≡ lent (fitOutcome (now (demand .entry)) (now (supply .entry)) (now (left .entry)) (now (served .entry)) (now (rest .entry)))
-        (fit (now (demand .entry)) (now (supply .entry)) .rest) (now (rest .entry)) ⌝ }
+    ensures { λ r. ⌜ Fits (now (demand .entry)) (now (supply .entry)) (now (left .entry)) (now (served .entry)) (now (rest .entry))
+        r (now (left .exit)) (now (served .exit)) (now (rest .exit)) ⌝ }
 {
     if !plain(demand) {
         return Fitted::Refused(Ground::NotPlain);
@@ -155,7 +142,7 @@ pub fn fit(
 
 // When a curve has given `amount` ticks.
 pub fn time_to_provide(curve: &[u32], amount: u32) -> Provided
-    ensures { λ r. ⌜ providedOf r ≡ provideOutcome (now (curve .entry)) amount ⌝ }
+    ensures { λ r. ⌜ Provides (now (curve .entry)) amount r ⌝ }
 {
     if amount == 0 {
         return Provided::Refused(Ground::ArgumentZero);
