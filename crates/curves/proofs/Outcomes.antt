@@ -2,8 +2,9 @@
 use Prim.Native.Nat.{ℕ}
 use mathlib.Core.Path.{_≡_, refl, sym, ap, _∙_}
 use mathlib.Core.List.{List}
+use mathlib.Core.Bool.{Bool}
 use lib.Dec.{eqb}
-use Rattle.windows.specs.Windows.{pick, Instant, at, notProvided}
+use Rattle.windows.specs.Windows.{pick, isPlain, Instant, at, notProvided}
 use Rattle.curves.specs.Refusals.{Outcome, refused, answer, numberOf, writtenOf, providedOf, fittedOf, Lengths}
 use Rattle.curves.specs.Calls.{Adds, Cuts, Fits, Provides}
 use Rattle.curves.specs.declared.Ground.{Ground}
@@ -78,3 +79,6 @@ fit-once demand supply left served rest r q x₁ x₂ x₃ y₁ y₂ y₃ p o = 
 
 pub provide-once : (curve : List ℕ) (n : ℕ) (r q : Provided) → Provides curve n r → Provides curve n q → r ≡ q
 provide-once curve n r q p o = sym (provided-back r) ∙ ap providedBack (p ∙ sym o) ∙ provided-back q
+
+pub plain-once : (curve : List ℕ) (r q : Bool) → r ≡ isPlain curve → q ≡ isPlain curve → r ≡ q
+plain-once curve r q p o = p ∙ sym o
