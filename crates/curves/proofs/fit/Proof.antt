@@ -38,14 +38,14 @@ plain-requires-2 : tie.Need-plain-requires-2
 plain-requires-2 c κs = search needs
 
 returns-2 : tie.Need-returns-2
-returns-2 c = 
+returns-2 c =
     rw (demand-so (c .before .before), sym (c .before .plain2 .ensures) ∙ not-true (c .before .plain2 .result) (c .if2 .taken)) (refl, refl, refl, refl)
 
 fits-requires : tie.Need-fits-requires
 fits-requires c κs = (demand-so (c .before .before), supply-so c)
 
 returns-3 : tie.Need-returns-3
-returns-3 c = 
+returns-3 c =
     let q = sym (c .before .fits2 .ensures) ∙ not-true (c .before .fits2 .result) (c .if3 .taken) in
     rw (demand-so (c .before .before .before .before), supply-so (c .before .before), rooms-so (c .before .before) _ _ _ ∙ q) (refl, refl, refl, refl)
 
@@ -62,7 +62,7 @@ same-length-3 : tie.Need-same-length-3
 same-length-3 c = search needs
 
 returns-4 : tie.Need-returns-4
-returns-4 c = 
+returns-4 c =
     let e = c .before .before .before .before .before .before .write .ensures in
     let n = e .0 in
     rw (demand-so (c .before .before .before .before .before .before .before .before .before .before .before .before .before .before), supply-so (c .before .before .before .before .before .before .before .before .before .before .before .before), rooms-so (c .before .before .before .before .before .before .before .before .before .before .before .before) _ _ _ ∙ fits-so (c .before .before .before .before .before .before .before .before .before .before))

@@ -1,0 +1,4 @@
+pub mod Rules
+pub mod Euclid
+pub mod Span
+pub mod Multiples
