@@ -1,0 +1,93 @@
+-- Document 01, 'The table text' and 'Numbers given on refusal': from a text to a table, or to what is wrong with it.
+use Prim.Native.Nat.{ℕ, suc, _+_, _-_}
+use mathlib.Core.List.{List, [], _∷_}
+use mathlib.Core.Bool.{Bool, true, false, _&&_}
+use lib.ListN.{length, getD, set, replicate}
+use lib.Dec.{ltb, leb, eqb}
+use Rattle.windows.specs.Windows.{pick}
+use Rattle.table.specs.Rules.{noServer, noTask, serversOf, tasksOf}
+use Rattle.table.specs.Span.{periodsOf, spanOf}
+use Rattle.table.specs.declared.Server.{Server}
+use Rattle.table.specs.declared.Task.{Task}
+use Rattle.table.specs.declared.Table.{Table}
+use Rattle.table.specs.declared.Span.{Span}
+use Rattle.table.specs.declared.Span.the-variants.{Ticks, Over}
+use Rattle.reading.specs.Fields.{linesOf}
+use Rattle.reading.specs.Lines.{lineOf}
+use Rattle.reading.specs.declared.What.{What}
+use Rattle.reading.specs.declared.What.the-variants as what
+use Rattle.reading.specs.declared.Line.{Line}
+use Rattle.reading.specs.declared.Line.the-variants.{SpanIs, ServerIs, TaskIs, Wrong}
+use Rattle.reading.specs.declared.Answer.{Answer}
+use Rattle.reading.specs.declared.Answer.the-variants.{Accepted, Refused}
+use Rattle.reading.specs.declared.Reading.{Reading}
+
+-- 01's number for each thing that can be wrong
+abbrev pub numberOf : What → ℕ
+numberOf what.TextTooLong = 1
+numberOf what.NotEnded = 2
+numberOf what.Misplaced = 3
+numberOf what.Missing = 3
+numberOf what.FieldCount = 4
+numberOf what.Empty = 5
+numberOf what.Dash = 5
+numberOf what.NoDigit = 5
+numberOf what.LeadingZero = 5
+numberOf what.TooManyDigits = 5
+numberOf what.UnknownKind = 5
+numberOf what.OutOfRange = 6
+numberOf what.TooMany = 7
+numberOf what.MultipleOver = 8
+
+-- the table before its first line; a span of 0 is not known yet
+abbrev pub noTable : Table
+noTable = record { span = 0; «servers_n» = 0; «tasks_n» = 0; servers = replicate 16 noServer; tasks = replicate 64 noTask }
+
+abbrev pub refused : What → ℕ → ℕ → Reading
+refused w line place = record { answer = Refused (record { what = w; line = line; place = place }); table = noTable }
+
+abbrev pub accepted : Table → Reading
+accepted t = record { answer = Accepted; table = t }
+
+-- the table with one line more
+abbrev pub withSpan : Table → ℕ → Table
+withSpan t h = record { span = h; «servers_n» = t .«servers_n»; «tasks_n» = t .«tasks_n»; servers = t .servers; tasks = t .tasks }
+
+abbrev pub withServer : Table → Server → Table
+withServer t s =
+    record { span = t .span; «servers_n» = t .«servers_n» + 1; «tasks_n» = t .«tasks_n»; servers = set (t .servers) (t .«servers_n») s; tasks = t .tasks }
+
+abbrev pub withTask : Table → Task → Table
+withTask t k =
+    record { span = t .span; «servers_n» = t .«servers_n»; «tasks_n» = t .«tasks_n» + 1; servers = t .servers; tasks = set (t .tasks) (t .«tasks_n») k }
+
+-- "`-` in `span` means the least common multiple"; 8: it "is above 16,000"
+abbrev pub resolved : Table → Span → Reading
+resolved t (Ticks h) = accepted (withSpan t h)
+resolved t Over = refused what.MultipleOver 0 0
+
+-- "then 3 for what is missing, on the line after the last; then 8"
+abbrev pub ended : Table → ℕ → Reading
+ended t line =
+    pick (ltb 0 (t .«servers_n») && ltb 0 (t .«tasks_n»))
+    (pick (eqb (t .span) 0) (resolved t (spanOf (periodsOf (serversOf t) (tasksOf t)))) (accepted t))
+    (refused what.Missing line 0)
+
+-- "line by line": a table, and the lines that are still to come, of which the first is line n
+abbrev pub afterLine : Line → Table → ℕ → (Table → Reading) → Reading
+afterLine (SpanIs h) t n next = next (withSpan t h)
+afterLine (ServerIs s) t n next = next (withServer t s)
+afterLine (TaskIs k) t n next = next (withTask t k)
+afterLine (Wrong w place) t n next = refused w n place
+
+unfoldable pub readLines : List (List ℕ) → Table → ℕ → Reading
+readLines [] t n = ended t n
+readLines (l ∷ ls) t n = afterLine (lineOf n (t .«servers_n») (t .«tasks_n») l) t n (λ u. readLines ls u (n + 1))
+
+-- "1, 2; then line by line"
+abbrev pub endsWithFeed : List ℕ → Bool
+endsWithFeed text = ltb 0 (length text) && eqb (getD text (length text - 1) 0) 10
+
+abbrev pub readingOf : List ℕ → Reading
+readingOf text =
+    pick (leb (length text) 4096) (pick (endsWithFeed text) (readLines (linesOf text) noTable 1) (refused what.NotEnded 0 0)) (refused what.TextTooLong 0 0)
