@@ -1,2 +1,4 @@
 pub mod Bytes
 pub mod Splits
+pub mod Spoken
+pub mod Rows

@@ -91,7 +91,7 @@ module _ (sep : ℕ) where
 
   -- ---- how many pieces there are
 
-  pieces-some : (l : List ℕ) → 0 < length (split sep l)
+  pub pieces-some : (l : List ℕ) → 0 < length (split sep l)
   unfolding split
   pieces-some [] = omega arith
   pieces-some (b ∷ r) = go (eqb b sep) (split sep r)

@@ -1,10 +1,71 @@
--- Where the first piece of a list of bytes ends: cited by the contracts of private functions.
-use Prim.Native.Nat.{ℕ, suc}
+-- What private functions of the reading promise: cited by their contracts, and by no public one.
+use Prim.Native.Nat.{ℕ, suc, _-_, _≤_, _<_}
+use mathlib.Core.Path.{_≡_}
+use mathlib.Core.Bool.{Bool, true, false}
 use mathlib.Core.List.{List, [], _∷_}
+use lib.ListN.{length, getD}
 use lib.Dec.{eqb}
 use Rattle.windows.specs.Windows.{pick}
+use Rattle.table.specs.Rules.{all, serverObeys, taskObeys, serversOf, tasksOf}
+use Rattle.table.specs.declared.Table.{Table}
+use Rattle.reading.specs.declared.What.the-variants.{Empty, Misplaced}
+use Rattle.reading.specs.declared.Number.{Number}
+use Rattle.reading.specs.declared.Number.the-variants as number
+use Rattle.reading.specs.declared.KindField.{KindField}
+use Rattle.reading.specs.declared.KindField.the-variants as kind
+use Rattle.reading.specs.declared.Line.{Line}
+use Rattle.reading.specs.declared.Line.the-variants.{SpanIs, ServerIs, TaskIs, Wrong}
+use Rattle.reading.specs.Reading.{refusal, withSpan, withServer, withTask}
+use Rattle.reading.specs.declared.Reading.{Reading}
 
 -- how many bytes lie before the first separator, or all of them
 unfoldable pub firstLength : ℕ → List ℕ → ℕ
 firstLength sep [] = 0
 firstLength sep (b ∷ r) = pick (eqb b sep) 0 (suc (firstLength sep r))
+
+-- the answer of a field that is refused; one that is not never asks
+abbrev pub wrongOf : Number → ℕ → Line
+wrongOf (number.Bad what) place = Wrong what place
+wrongOf (number.Value n) place = Wrong Empty place
+
+abbrev pub wrongKindOf : KindField → ℕ → Line
+wrongKindOf (kind.Bad what) place = Wrong what place
+wrongKindOf (kind.Is k) place = Wrong Empty place
+
+-- a table that has been read so far: its counts and entries obey the rules
+pub record InRules (t : Table) : Type 0 where
+  pub few : t .«servers_n» ≤ 16
+  pub many : t .«tasks_n» ≤ 64
+  pub servers : all serverObeys (serversOf t) ≡ true
+  pub tasks : all (taskObeys (t .«servers_n»)) (tasksOf t) ≡ true
+
+-- there is a place for what a line says
+abbrev pub Room : Table → Line → Type 0
+Room t (SpanIs h) = Unit {0}
+Room t (ServerIs s) = t .«servers_n» < 16
+Room t (TaskIs k) = t .«tasks_n» < 64
+Room t (Wrong w place) = Unit {0}
+
+abbrev pub withLine : Table → Line → Table
+withLine t (SpanIs h) = withSpan t h
+withLine t (ServerIs s) = withServer t s
+withLine t (TaskIs k) = withTask t k
+withLine t (Wrong w place) = t
+
+-- nothing is wrong with a line
+abbrev pub goesOn : Line → Bool
+goesOn (SpanIs h) = true
+goesOn (ServerIs s) = true
+goesOn (TaskIs k) = true
+goesOn (Wrong w place) = false
+
+-- the refusal of a wrong line; one that is right never asks
+abbrev pub refusedLine : Line → ℕ → Reading
+refusedLine (SpanIs h) n = refusal Misplaced n 0
+refusedLine (ServerIs s) n = refusal Misplaced n 0
+refusedLine (TaskIs k) n = refusal Misplaced n 0
+refusedLine (Wrong w place) n = refusal w n place
+
+-- nothing, or bytes that end with a line feed
+pub record Feeds (l : List ℕ) : Type 0 where
+  pub ends : 0 < length l → getD l (length l - 1) 0 ≡ 10

@@ -43,8 +43,8 @@ numberOf what.MultipleOver = 8
 abbrev pub noTable : Table
 noTable = record { span = 0; «servers_n» = 0; «tasks_n» = 0; servers = replicate 16 noServer; tasks = replicate 64 noTask }
 
-abbrev pub refused : What → ℕ → ℕ → Reading
-refused w line place = record { answer = Refused (record { what = w; line = line; place = place }); table = noTable }
+abbrev pub refusal : What → ℕ → ℕ → Reading
+refusal w line place = record { answer = Refused (record { what = w; line = line; place = place }); table = noTable }
 
 abbrev pub accepted : Table → Reading
 accepted t = record { answer = Accepted; table = t }
@@ -64,24 +64,24 @@ withTask t k =
 -- "`-` in `span` means the least common multiple"; 8: it "is above 16,000"
 abbrev pub resolved : Table → Span → Reading
 resolved t (Ticks h) = accepted (withSpan t h)
-resolved t Over = refused what.MultipleOver 0 0
+resolved t Over = refusal what.MultipleOver 0 0
 
 -- "then 3 for what is missing, on the line after the last; then 8"
-abbrev pub ended : Table → ℕ → Reading
-ended t line =
+abbrev pub endedOf : Table → ℕ → Reading
+endedOf t line =
     pick (ltb 0 (t .«servers_n») && ltb 0 (t .«tasks_n»))
     (pick (eqb (t .span) 0) (resolved t (spanOf (periodsOf (serversOf t) (tasksOf t)))) (accepted t))
-    (refused what.Missing line 0)
+    (refusal what.Missing line 0)
 
 -- "line by line": a table, and the lines that are still to come, of which the first is line n
 abbrev pub afterLine : Line → Table → ℕ → (Table → Reading) → Reading
 afterLine (SpanIs h) t n next = next (withSpan t h)
 afterLine (ServerIs s) t n next = next (withServer t s)
 afterLine (TaskIs k) t n next = next (withTask t k)
-afterLine (Wrong w place) t n next = refused w n place
+afterLine (Wrong w place) t n next = refusal w n place
 
 unfoldable pub readLines : List (List ℕ) → Table → ℕ → Reading
-readLines [] t n = ended t n
+readLines [] t n = endedOf t n
 readLines (l ∷ ls) t n = afterLine (lineOf n (t .«servers_n») (t .«tasks_n») l) t n (λ u. readLines ls u (n + 1))
 
 -- "1, 2; then line by line"
@@ -90,4 +90,4 @@ endsWithFeed text = ltb 0 (length text) && eqb (getD text (length text - 1) 0) 1
 
 abbrev pub readingOf : List ℕ → Reading
 readingOf text =
-    pick (leb (length text) 4096) (pick (endsWithFeed text) (readLines (linesOf text) noTable 1) (refused what.NotEnded 0 0)) (refused what.TextTooLong 0 0)
+    pick (leb (length text) 4096) (pick (endsWithFeed text) (readLines (linesOf text) noTable 1) (refusal what.NotEnded 0 0)) (refusal what.TextTooLong 0 0)

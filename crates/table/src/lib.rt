@@ -1,7 +1,7 @@
 // The table of servers and tasks, the rules that it obeys, and the span that its periods give.
 mod euclid;
 pub mod multiples;
-mod rules;
+pub mod rules;
 
 ghost use mathlib.Core.Path.{_≡_};
 ghost use Rattle.table.specs.Rules.{obeys};

@@ -1,0 +1,171 @@
+// Writing answers: `n` bytes wait at the front of `out` until it is full, and are then written to standard output at once. Each function
+// answers how many bytes wait after it.
+ghost use Prim.Native.Nat.{_≤_};
+use curves::Fitted;
+use curves::Ground;
+use curves::Provided;
+use curves::Written;
+
+// Writes the bytes that wait.
+pub fn flush(out: &[u8; 65536], n: usize)
+    requires { ⌜ n ≤ 65536 ⌝ }
+{
+    let bytes: &[u8] = out;
+    io::write_all(libc::STDOUT_FILENO, &bytes[..n]);
+}
+
+// Puts one byte.
+fn put_byte(out: &mut [u8; 65536], n: usize, byte: u8) -> usize
+    requires { ⌜ n ≤ 65536 ⌝ }
+    ensures { λ r. ⌜ r ≤ 65536 ⌝ }
+{
+    if n < 65536 {
+        out[n] = byte;
+        return n + 1;
+    }
+    flush(out, n);
+    out[0] = byte;
+    1
+}
+
+// Puts the bytes of a word.
+fn put_word(out: &mut [u8; 65536], n: usize, word: &[u8]) -> usize
+    requires { ⌜ n ≤ 65536 ⌝ }
+    ensures { λ r. ⌜ r ≤ 65536 ⌝ }
+{
+    let mut m = n;
+    let mut i: usize = 0;
+    while i < word.len() {
+        m = put_byte(out, m, word[i]);
+        i += 1;
+    }
+    m
+}
+
+// Puts a space and a number in decimal.
+fn put_number(out: &mut [u8; 65536], n: usize, value: u64) -> usize
+    requires { ⌜ n ≤ 65536 ⌝ }
+    ensures { λ r. ⌜ r ≤ 65536 ⌝ }
+{
+    let m = put_byte(out, n, b' ');
+    let mut digits = [0u8; 20];
+    let k = io::decimal(value, &mut digits);
+    put_word(out, m, &digits[..k])
+}
+
+// Puts a refusal: its number, and its line, which is 0 at every call on curves.
+fn put_ground(out: &mut [u8; 65536], n: usize, ground: Ground) -> usize
+    requires { ⌜ n ≤ 65536 ⌝ }
+    ensures { λ r. ⌜ r ≤ 65536 ⌝ }
+{
+    match ground {
+        Ground::ArgumentZero => put_word(out, n, b"refused 12 0"),
+        Ground::NotPlain => put_word(out, n, b"refused 10 0"),
+        Ground::NoRoom => put_word(out, n, b"refused 11 0"),
+    }
+}
+
+// Puts what adding up or cutting answered.
+fn put_count(out: &mut [u8; 65536], n: usize, answer: Written) -> usize
+    requires { ⌜ n ≤ 65536 ⌝ }
+    ensures { λ r. ⌜ r ≤ 65536 ⌝ }
+{
+    match answer {
+        Written::Count(count) => {
+            let m = put_word(out, n, b"count");
+            put_number(out, m, count as u64)
+        }
+        Written::Refused(ground) => put_ground(out, n, ground),
+    }
+}
+
+// Puts what fitting answered.
+fn put_counts(out: &mut [u8; 65536], n: usize, answer: Fitted) -> usize
+    requires { ⌜ n ≤ 65536 ⌝ }
+    ensures { λ r. ⌜ r ≤ 65536 ⌝ }
+{
+    match answer {
+        Fitted::Counts(left, served, rest) => {
+            let n1 = put_word(out, n, b"counts");
+            let n2 = put_number(out, n1, left as u64);
+            let n3 = put_number(out, n2, served as u64);
+            put_number(out, n3, rest as u64)
+        }
+        Fitted::Refused(ground) => put_ground(out, n, ground),
+    }
+}
+
+// Puts what time to provide answered.
+fn put_time(out: &mut [u8; 65536], n: usize, answer: Provided) -> usize
+    requires { ⌜ n ≤ 65536 ⌝ }
+    ensures { λ r. ⌜ r ≤ 65536 ⌝ }
+{
+    match answer {
+        Provided::At(t) => {
+            let m = put_word(out, n, b"at");
+            put_number(out, m, t as u64)
+        }
+        Provided::NotProvided => put_word(out, n, b"not provided"),
+        Provided::Refused(ground) => put_ground(out, n, ground),
+    }
+}
+
+// Puts a bar and every number of a lent buffer.
+fn put_lent(out: &mut [u8; 65536], n: usize, lent: &[u32]) -> usize
+    requires { ⌜ n ≤ 65536 ⌝ }
+    ensures { λ r. ⌜ r ≤ 65536 ⌝ }
+{
+    let mut m = put_word(out, n, b" |");
+    let mut i: usize = 0;
+    while i < lent.len() {
+        m = put_number(out, m, lent[i] as u64);
+        i += 1;
+    }
+    m
+}
+
+// Puts the line of adding up or cutting: the answer and the lent buffer.
+pub fn put_written(out: &mut [u8; 65536], n: usize, answer: Written, lent: &[u32]) -> usize
+    requires { ⌜ n ≤ 65536 ⌝ }
+    ensures { λ r. ⌜ r ≤ 65536 ⌝ }
+{
+    let n1 = put_count(out, n, answer);
+    let n2 = put_lent(out, n1, lent);
+    put_byte(out, n2, b'\n')
+}
+
+// Puts the line of fitting: the answer and the three lent buffers.
+pub fn put_fitted(
+    out: &mut [u8; 65536],
+    n: usize,
+    answer: Fitted,
+    left: &[u32],
+    served: &[u32],
+    rest: &[u32],
+) -> usize
+    requires { ⌜ n ≤ 65536 ⌝ }
+    ensures { λ r. ⌜ r ≤ 65536 ⌝ }
+{
+    let n1 = put_counts(out, n, answer);
+    let n2 = put_lent(out, n1, left);
+    let n3 = put_lent(out, n2, served);
+    let n4 = put_lent(out, n3, rest);
+    put_byte(out, n4, b'\n')
+}
+
+// Puts the line of time to provide.
+pub fn put_provided(out: &mut [u8; 65536], n: usize, answer: Provided) -> usize
+    requires { ⌜ n ≤ 65536 ⌝ }
+    ensures { λ r. ⌜ r ≤ 65536 ⌝ }
+{
+    let m = put_time(out, n, answer);
+    put_byte(out, m, b'\n')
+}
+
+// Puts the answer to a line that is no call.
+pub fn put_bad(out: &mut [u8; 65536], n: usize) -> usize
+    requires { ⌜ n ≤ 65536 ⌝ }
+    ensures { λ r. ⌜ r ≤ 65536 ⌝ }
+{
+    put_word(out, n, b"bad\n")
+}

@@ -1,0 +1,282 @@
+-- Line after line: what a line can say, that the table stays within its rules, and where the next line starts. Assumes nothing.
+use Prim.Native.Nat.{ℕ, zero, suc, _+_, _-_, _≤_, _<_}
+use mathlib.Core.Path.{_≡_, refl, sym, ap, _∙_}
+use mathlib.Core.List.{List, [], _∷_, _++_}
+use mathlib.Core.Bool.{Bool, true, false, _&&_}
+use native.Mathlib.Numerals.{add-one}
+use native.Mathlib.Omega.{arith}
+use native.Mathlib.Decide.{decLt}
+use lib.ListN.{length, getD, take, drop, set, length-drop, length-set, drop-of-length-le}
+use lib.Seq.{take-suc-set, getD-drop}
+use lib.Dec.{ltb, leb, eqb}
+use borrow.Author.Tests.{ltb-true, leb-true, eqb-true, eq-eqb, ne-eqb}
+use Rattle.windows.specs.Windows.{pick}
+use Rattle.windows.proofs.Ticks.{and-left, and-right}
+use Rattle.table.specs.Rules.{all, between, inTicks, serverObeys, releaseObeys, taskObeys, serversOf, tasksOf}
+use Rattle.table.specs.declared.Server.{Server}
+use Rattle.table.specs.declared.Task.{Task}
+use Rattle.table.specs.declared.Table.{Table}
+use Rattle.table.specs.declared.Kind.{Kind}
+use Rattle.reading.specs.Fields.{split, allButLast, linesOf, fieldsOf, fieldAt, sameBytes, dash, wordOf, numberOf}
+use Rattle.reading.specs.Lines.{field, ranged, counted, spanLine, kindOf, kindField, serverIs, serverLine, onceIs, onceLine, deadlineOf, everyIs, everyLine, placed, fewer, byWord, lineOf}
+use Rattle.reading.specs.Reading.{noTable, withSpan, withServer, withTask, endedOf, afterLine, readLines}
+use Rattle.reading.specs.declared.Reading.{Reading}
+use Rattle.reading.specs.Pieces.{firstLength, InRules, Room, withLine, goesOn, refusedLine, Feeds}
+use Rattle.reading.specs.declared.Word.{Word}
+use Rattle.reading.specs.declared.Word.the-variants as word
+use Rattle.reading.specs.declared.Number.{Number}
+use Rattle.reading.specs.declared.Number.the-variants as number
+use Rattle.reading.specs.declared.KindField.{KindField}
+use Rattle.reading.specs.declared.KindField.the-variants as kind
+use Rattle.reading.specs.declared.Line.{Line}
+use Rattle.reading.specs.declared.Line.the-variants.{SpanIs, ServerIs, TaskIs, Wrong}
+use Rattle.reading.proofs.Splits.{split-first, pieces-some}
+
+-- ---- what a line can say, behind so many servers and tasks
+
+pub record SaysServer (servers tasks : ℕ) (s : Server) : Type 0 where
+  pub room : servers < 16
+  pub first : tasks ≡ 0
+  pub obeys : serverObeys s ≡ true
+
+pub record SaysTask (servers tasks : ℕ) (k : Task) : Type 0 where
+  pub room : tasks < 64
+  pub obeys : taskObeys servers k ≡ true
+
+abbrev pub Says : ℕ → ℕ → Line → Type 0
+Says servers tasks (SpanIs h) = h ≤ 16000
+Says servers tasks (ServerIs s) = SaysServer servers tasks s
+Says servers tasks (TaskIs k) = SaysTask servers tasks k
+Says servers tasks (Wrong w place) = Unit {0}
+
+and-both : {a b : Bool} → a ≡ true → b ≡ true → (a && b) ≡ true
+and-both {a} {b} p q = rw (p, q)
+
+module _ (servers tasks : ℕ) where
+  pick-says : (b : Bool) (place : ℕ) (w : _) (next : Line) → (b ≡ true → Says servers tasks next) → Says servers tasks (pick b next (Wrong w place))
+  pick-says true place w next h = h refl
+  pick-says false place w next h = tt
+
+  field-says : (f : Number) (place : ℕ) (next : ℕ → Line) → ((n : ℕ) → Says servers tasks (next n)) → Says servers tasks (field f place next)
+  field-says (number.Value n) place next h = h n
+  field-says (number.Bad w) place next h = tt
+
+  kind-says : (f : KindField) (place : ℕ) (next : Kind → Line) → ((k : Kind) → Says servers tasks (next k)) → Says servers tasks (kindField f place next)
+  kind-says (kind.Is k) place next h = h k
+  kind-says (kind.Bad w) place next h = tt
+
+  span-says : (line : List ℕ) → Says servers tasks (spanLine line)
+  span-says line =
+      pick-says (eqb (length (fieldsOf line)) 2) 0 _ _ (λ e. go (sameBytes (fieldAt line 2) dash))
+    where
+      go : (b : Bool) → Says servers tasks (pick b (SpanIs 0) (field (numberOf (fieldAt line 2)) 2 (λ h. ranged (inTicks h) 2 (SpanIs h))))
+      go true = omega arith
+      go false =
+          field-says (numberOf (fieldAt line 2)) 2 _
+          (λ h. pick-says (inTicks h) 2 _ _ (λ e. leb-true h 16000 (and-right (leb 1 h) (leb h 16000) e)))
+
+  server-says : (line : List ℕ) → servers < 16 → tasks ≡ 0 → Says servers tasks (serverLine line)
+  server-says line r z =
+      pick-says (eqb (length (fieldsOf line)) 4) 0 _ _ (λ e.
+      kind-says (kindOf (fieldAt line 2)) 2 _ (λ k.
+      field-says (numberOf (fieldAt line 3)) 3 _ (λ c.
+      field-says (numberOf (fieldAt line 4)) 4 _ (λ t.
+      pick-says (inTicks c && leb c t) 3 _ _ (λ p.
+      pick-says (inTicks t) 4 _ _ (λ q. record {
+        room = r;
+        first = z;
+        obeys = and-both (and-left (inTicks c) (leb c t) p) (and-both q (and-right (inTicks c) (leb c t) p));
+      }))))))
+
+  once-says : (line : List ℕ) → tasks < 64 → Says servers tasks (onceLine servers line)
+  once-says line r =
+      pick-says (eqb (length (fieldsOf line)) 5) 0 _ _ (λ e.
+      field-says (numberOf (fieldAt line 2)) 2 _ (λ s.
+      field-says (numberOf (fieldAt line 3)) 3 _ (λ w.
+      field-says (numberOf (fieldAt line 4)) 4 _ (λ i.
+      field-says (numberOf (fieldAt line 5)) 5 _ (λ d.
+      pick-says (between 1 servers s) 2 _ _ (λ p.
+      pick-says (inTicks w) 3 _ _ (λ q.
+      pick-says (leb i 16000) 4 _ _ (λ u.
+      pick-says (inTicks d) 5 _ _ (λ v. record { room = r; obeys = and-both p (and-both q (and-both u v)) })))))))))
+
+  every-says : (line : List ℕ) → tasks < 64 → Says servers tasks (everyLine servers line)
+  every-says line r =
+      pick-says (eqb (length (fieldsOf line)) 6) 0 _ _ (λ e.
+      field-says (numberOf (fieldAt line 2)) 2 _ (λ s.
+      field-says (numberOf (fieldAt line 3)) 3 _ (λ w.
+      field-says (numberOf (fieldAt line 4)) 4 _ (λ o.
+      field-says (numberOf (fieldAt line 5)) 5 _ (λ p.
+      field-says (deadlineOf (fieldAt line 6) p) 6 _ (λ d.
+      pick-says (between 1 servers s) 2 _ _ (λ a.
+      pick-says (inTicks w) 3 _ _ (λ b.
+      pick-says (leb o 16000) 4 _ _ (λ c.
+      pick-says (inTicks p) 5 _ _ (λ f.
+      pick-says (inTicks d) 6 _ _ (λ g. record { room = r; obeys = and-both a (and-both b (and-both (and-both c f) g)) })))))))))))
+
+  word-says : (w : Word) (n : ℕ) (line : List ℕ) → Says servers tasks (byWord w n servers tasks line)
+  word-says word.Span n line = pick-says (eqb n 1) 0 _ _ (λ e. span-says line)
+  word-says word.Server n line =
+      pick-says (ltb 1 n && eqb tasks 0) 0 _ _ (λ e.
+      pick-says (ltb servers 16) 0 _ _ (λ f. server-says line (ltb-true servers 16 f) (eqb-true tasks 0 (and-right (ltb 1 n) (eqb tasks 0) e))))
+  word-says word.Once n line = pick-says (ltb 0 servers) 0 _ _ (λ e. pick-says (ltb tasks 64) 0 _ _ (λ f. once-says line (ltb-true tasks 64 f)))
+  word-says word.Every n line = pick-says (ltb 0 servers) 0 _ _ (λ e. pick-says (ltb tasks 64) 0 _ _ (λ f. every-says line (ltb-true tasks 64 f)))
+  word-says word.Unknown n line = tt
+
+  pub line-says : (n : ℕ) (line : List ℕ) → Says servers tasks (lineOf n servers tasks line)
+  line-says n line = word-says (wordOf (fieldAt line 1)) n line
+
+-- ---- after a line
+
+pub after-right : (line : Line) (t : Table) (n : ℕ) (next : Table → Reading) → goesOn line ≡ true → afterLine line t n next ≡ next (withLine t line)
+after-right (SpanIs h) t n next e = refl
+after-right (ServerIs s) t n next e = refl
+after-right (TaskIs k) t n next e = refl
+after-right (Wrong w place) t n next e = let z : _≡_ {A = ℕ} 0 1 = cc in absurd (omega arith)
+
+pub after-wrong : (line : Line) (t : Table) (n : ℕ) (next : Table → Reading) → goesOn line ≡ false → afterLine line t n next ≡ refusedLine line n
+after-wrong (SpanIs h) t n next e = let z : _≡_ {A = ℕ} 0 1 = cc in absurd (omega arith)
+after-wrong (ServerIs s) t n next e = let z : _≡_ {A = ℕ} 0 1 = cc in absurd (omega arith)
+after-wrong (TaskIs k) t n next e = let z : _≡_ {A = ℕ} 0 1 = cc in absurd (omega arith)
+after-wrong (Wrong w place) t n next e = refl
+
+-- ---- the table stays within its rules
+
+-- the entries with one more
+all-append : {A : Type 0} (f : A → Bool) (l : List A) (a : A) → all f l ≡ true → f a ≡ true → all f (l ++ (a ∷ [])) ≡ true
+unfolding all
+all-append f [] a h k = rw k
+all-append f (x ∷ l) a h k = and-both (and-left (f x) (all f l) h) (all-append f l a (and-right (f x) (all f l) h) k)
+
+one-more : {A : Type 0} (f : A → Bool) (xs : List A) (n : ℕ) (a : A) → n < length xs → all f (take n xs) ≡ true → f a ≡ true → all f (take (n + 1) (set xs n a)) ≡ true
+one-more f xs n a h p q = rw (add-one, take-suc-set xs n a h) (all-append f (take n xs) a p q)
+
+-- the arrays of a table have their lengths
+pub record Sized (t : Table) : Type 0 where
+  pub of-servers : length (t .servers) ≡ 16
+  pub of-tasks : length (t .tasks) ≡ 64
+
+none-obey : (n : ℕ) (t : Table) → t .«tasks_n» ≡ 0 → all (taskObeys n) (tasksOf t) ≡ true
+unfolding all
+none-obey n t e = rw e
+
+pub rules-kept : (t : Table) (line : Line) → Sized t → InRules t → Says (t .«servers_n») (t .«tasks_n») line → InRules (withLine t line)
+rules-kept t (SpanIs h) z p s = record { few = p .few; many = p .many; servers = p .servers; tasks = p .tasks }
+rules-kept t (ServerIs x) z p s = record {
+  few = omega (arith, s .room);
+  many = p .many;
+  servers = one-more serverObeys (t .servers) (t .«servers_n») x (omega (arith, z .of-servers, s .room)) (p .servers) (s .obeys);
+  tasks = none-obey (t .«servers_n» + 1) (withServer t x) (s .first);
+}
+rules-kept t (TaskIs k) z p s = record {
+  few = p .few;
+  many = omega (arith, s .room);
+  servers = p .servers;
+  tasks = one-more (taskObeys (t .«servers_n»)) (t .tasks) (t .«tasks_n») k (omega (arith, z .of-tasks, s .room)) (p .tasks) (s .obeys);
+}
+rules-kept t (Wrong w place) z p s = p
+
+pub sized-kept : (t : Table) (line : Line) → Sized t → Sized (withLine t line)
+sized-kept t (SpanIs h) z = record { of-servers = z .of-servers; of-tasks = z .of-tasks }
+sized-kept t (ServerIs x) z = record { of-servers = simp length-set (z .of-servers); of-tasks = z .of-tasks }
+sized-kept t (TaskIs k) z = record { of-servers = z .of-servers; of-tasks = simp length-set (z .of-tasks) }
+sized-kept t (Wrong w place) z = z
+
+pub room-for : (t : Table) (line : Line) → Says (t .«servers_n») (t .«tasks_n») line → Room t line
+room-for t (SpanIs h) s = tt
+room-for t (ServerIs x) s = s .room
+room-for t (TaskIs k) s = s .room
+room-for t (Wrong w place) s = tt
+
+pub none-yet : InRules noTable
+unfolding all
+none-yet = record { few = omega arith; many = omega arith; servers = refl; tasks = refl }
+
+pub none-sized : Sized noTable
+none-sized = record { of-servers = refl; of-tasks = refl }
+
+-- ---- where the next line starts
+
+-- a separator at place i is not before the first
+first-not-after : (sep : ℕ) (l : List ℕ) (i : ℕ) → i < length l → getD l i 0 ≡ sep → firstLength sep l ≤ i
+unfolding firstLength
+first-not-after sep [] i h e = absurd (omega arith)
+first-not-after sep (b ∷ r) zero h e = rw (eq-eqb b sep e) (omega arith)
+first-not-after sep (b ∷ r) (suc i) h e = go (eqb b sep) (first-not-after sep r i (omega arith) e)
+  where
+    go : (x : Bool) → firstLength sep r ≤ i → pick x 0 (suc (firstLength sep r)) ≤ suc i
+    go true k = omega arith
+    go false k = omega arith
+
+pub line-feed : (l : List ℕ) → Feeds l → 0 < length l → firstLength 10 l < length l
+line-feed l f h = omega (arith, first-not-after 10 l (length l - 1) (omega arith) (f .ends h))
+
+pub line-next : (l : List ℕ) → firstLength 10 l < length l → linesOf l ≡ take (firstLength 10 l) l ∷ linesOf (drop (firstLength 10 l + 1) l)
+unfolding allButLast
+line-next l h = ap allButLast (split-first 10 l h) ∙ go (split 10 (drop (firstLength 10 l + 1) l)) (pieces-some 10 (drop (firstLength 10 l + 1) l))
+  where
+    go : (fs : List (List ℕ)) → 0 < length fs → allButLast (take (firstLength 10 l) l ∷ fs) ≡ take (firstLength 10 l) l ∷ allButLast fs
+    go [] k = absurd (omega arith)
+    go (f ∷ fs) k = refl
+
+pub line-none : (l : List ℕ) → length l ≤ 0 → linesOf l ≡ []
+unfolding allButLast split
+line-none [] h = refl
+line-none (b ∷ l) h = absurd (omega arith)
+
+pub feeds-on : (l : List ℕ) (k : ℕ) → Feeds l → k ≤ length l → Feeds (drop k l)
+feeds-on l k f h = record {
+  ends = λ p.
+      let e : length (drop k l) ≡ length l - k = length-drop k l in
+      let m : k + (length (drop k l) - 1) ≡ length l - 1 = omega arith in
+      getD-drop k l (length (drop k l) - 1) 0 ∙ rw m (f .ends (omega arith));
+}
+
+-- ---- a reading under way: a table so far, and the rest of the text, of which the first line is line n
+
+pub record Underway (text rest : List ℕ) (t : Table) (n : ℕ) : Type 0 where
+  pub rules : InRules t
+  pub sized : Sized t
+  pub feeds : Feeds rest
+  pub short : n + length rest ≤ 4097
+  pub is : readLines (linesOf rest) t n ≡ readLines (linesOf text) noTable 1
+
+pub underway-start : (text : List ℕ) → Feeds text → length text ≤ 4096 → Underway text text noTable 1
+underway-start text f h = record { rules = none-yet; sized = none-sized; feeds = f; short = omega arith; is = refl }
+
+-- the first line of the rest, and what it says
+abbrev pub firstLine : List ℕ → List ℕ
+firstLine rest = take (firstLength 10 rest) rest
+
+abbrev pub said : List ℕ → Table → ℕ → Line
+said rest t n = lineOf n (t .«servers_n») (t .«tasks_n») (firstLine rest)
+
+module _ {text rest : List ℕ} {t : Table} {n : ℕ} (u : Underway text rest t n) where
+  pub feed-at : 0 < length rest → firstLength 10 rest < length rest
+  feed-at h = line-feed rest (u .feeds) h
+
+  unread : (h : 0 < length rest)
+      → afterLine (said rest t n) t n (λ v. readLines (linesOf (drop (firstLength 10 rest + 1) rest)) v (n + 1)) ≡ readLines (linesOf text) noTable 1
+  unfolding readLines
+  unread h = (rw (line-next rest (feed-at h)) at (u .is))
+
+  pub underway-wrong : 0 < length rest → goesOn (said rest t n) ≡ false → refusedLine (said rest t n) n ≡ readLines (linesOf text) noTable 1
+  underway-wrong h e = sym (after-wrong (said rest t n) t n _ e) ∙ unread h
+
+  pub underway-room : Room t (said rest t n)
+  underway-room = room-for t (said rest t n) (line-says (t .«servers_n») (t .«tasks_n») n (firstLine rest))
+
+  pub underway-more : 0 < length rest → goesOn (said rest t n) ≡ true → Underway text (drop (firstLength 10 rest + 1) rest) (withLine t (said rest t n)) (n + 1)
+  underway-more h e =
+      let k = firstLength 10 rest + 1 in
+      record {
+        rules = rules-kept t (said rest t n) (u .sized) (u .rules) (line-says (t .«servers_n») (t .«tasks_n») n (firstLine rest));
+        sized = sized-kept t (said rest t n) (u .sized);
+        feeds = feeds-on rest k (u .feeds) (omega (arith, feed-at h));
+        short = omega (arith, length-drop k rest, u .short, feed-at h);
+        is = sym (after-right (said rest t n) t n (λ v. readLines (linesOf (drop k rest)) v (n + 1)) e) ∙ unread h;
+      }
+
+  pub underway-end : length rest ≤ 0 → endedOf t n ≡ readLines (linesOf text) noTable 1
+  unfolding readLines
+  underway-end h = rw (line-none rest h) at (u .is)
