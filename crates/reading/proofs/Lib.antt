@@ -2,3 +2,4 @@ pub mod Bytes
 pub mod Splits
 pub mod Spoken
 pub mod Rows
+pub mod Accepted

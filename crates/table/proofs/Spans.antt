@@ -167,3 +167,48 @@ module _ {span joint next : Span} {ps : List ℕ} where
   unfolding taskPeriods
   task-passed xs n i h k p j =
       passing-step p (ap taskPeriods (entry-next xs n h noTask i k) ∙ every-append (getD xs i noTask .release) (taskPeriods (drop (i + 1) (take n xs)))) j
+
+-- ---- what the span is: the least number above 0 that every period divides, or none up to 16,000 is such
+
+-- of the k numbers from n on
+pub record IsFirst (ps : List ℕ) (k n h : ℕ) : Type 0 where
+  pub from : n ≤ h
+  pub below : h < n + k
+  pub divides : Divide ps h
+  pub sooner : (u : ℕ) → n ≤ u → u < h → Divide ps u → ⊥
+
+abbrev pub SearchSays : List ℕ → ℕ → ℕ → Span → Type 0
+SearchSays ps k n (Ticks h) = IsFirst ps k n h
+SearchSays ps k n Over = (u : ℕ) → n ≤ u → u < n + k → Divide ps u → ⊥
+
+later-says : (ps : List ℕ) (k n : ℕ) (r : Span) → (Divide ps n → ⊥) → SearchSays ps k (suc n) r → SearchSays ps (suc k) n r
+later-says ps k n (Ticks h) q s = record {
+  from = omega (arith, s .from);
+  below = omega (arith, s .below);
+  divides = s .divides;
+  sooner = λ u a b d. at-first u a d (ℕ-discrete u n) b;
+}
+  where
+    at-first : (u : ℕ) → n ≤ u → Divide ps u → Dec (u ≡ n) → u < h → ⊥
+    at-first u a d (yes e) b = q (rw e at d)
+    at-first u a d (no e) b = s .sooner u (omega arith) b d
+later-says ps k n Over q s = λ u a b d. at-first u a b d (ℕ-discrete u n)
+  where
+    at-first : (u : ℕ) → n ≤ u → u < n + suc k → Divide ps u → Dec (u ≡ n) → ⊥
+    at-first u a b d (yes e) = q (rw e at d)
+    at-first u a b d (no e) = s u (omega arith) (omega arith) d
+
+clash : {b : Bool} → b ≡ true → b ≡ false → ⊥
+clash h k = let z : _≡_ {A = ℕ} 0 1 = cc in omega arith
+
+search-says : (ps : List ℕ) (k n : ℕ) → SearchSays ps k n (firstMultiple ps k n)
+unfolding firstMultiple
+search-says ps zero n = λ u a b d. omega arith
+search-says ps (suc k) n = go (isMultiple ps n) refl (search-says ps k (suc n))
+  where
+    go : (b : Bool) → isMultiple ps n ≡ b → SearchSays ps k (suc n) (firstMultiple ps k (suc n)) → SearchSays ps (suc k) n (pick b (Ticks n) (firstMultiple ps k (suc n)))
+    go true e s = record { from = omega arith; below = omega arith; divides = multiple-divides ps n e; sooner = λ u a b d. omega arith }
+    go false e s = later-says ps k n (firstMultiple ps k (suc n)) (λ d. clash (divides-multiple ps n d) e) s
+
+pub span-says : (ps : List ℕ) → SearchSays ps 16000 1 (spanOf ps)
+span-says ps = search-says ps 16000 1
