@@ -3,3 +3,4 @@ pub mod Splits
 pub mod Spoken
 pub mod Rows
 pub mod Accepted
+pub mod Grounds
