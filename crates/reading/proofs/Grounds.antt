@@ -113,6 +113,18 @@ module _ (w : Word) (n servers tasks : ℕ) (line : List ℕ) where
     pub counted : Counted
     pub field : (numberOf (fieldAt line place) ≡ number.Bad x) ⊎ (kindOf (fieldAt line place) ≡ kind.Bad x)
 
+  -- 6: the number at a place is outside its range
+  pub data Outside : ℕ → Type 0 where
+    span-out : {h : ℕ} → numberOf (fieldAt line 2) ≡ number.Value h → inTicks h ≡ false → Outside 2
+    capacity-out : {c t : ℕ} → numberOf (fieldAt line 3) ≡ number.Value c → numberOf (fieldAt line 4) ≡ number.Value t → (inTicks c && leb c t) ≡ false → Outside 3
+    server-period-out : {t : ℕ} → numberOf (fieldAt line 4) ≡ number.Value t → inTicks t ≡ false → Outside 4
+    server-out : {s : ℕ} → numberOf (fieldAt line 2) ≡ number.Value s → between 1 servers s ≡ false → Outside 2
+    work-out : {k : ℕ} → numberOf (fieldAt line 3) ≡ number.Value k → inTicks k ≡ false → Outside 3
+    instant-out : {i : ℕ} → numberOf (fieldAt line 4) ≡ number.Value i → leb i 16000 ≡ false → Outside 4
+    once-deadline-out : {d : ℕ} → numberOf (fieldAt line 5) ≡ number.Value d → inTicks d ≡ false → Outside 5
+    period-out : {p : ℕ} → numberOf (fieldAt line 5) ≡ number.Value p → inTicks p ≡ false → Outside 5
+    deadline-out : (p : ℕ) {d : ℕ} → deadlineOf (fieldAt line 6) p ≡ number.Value d → inTicks d ≡ false → Outside 6
+
   abbrev pub GroundOf : What → ℕ → Type 0
   GroundOf what.TextTooLong place = ⊥
   GroundOf what.NotEnded place = ⊥
@@ -126,7 +138,7 @@ module _ (w : Word) (n servers tasks : ℕ) (line : List ℕ) where
   GroundOf what.LeadingZero place = BadField what.LeadingZero place
   GroundOf what.TooManyDigits place = BadField what.TooManyDigits place
   GroundOf what.UnknownKind place = BadField what.UnknownKind place
-  GroundOf what.OutOfRange place = Counted
+  GroundOf what.OutOfRange place = Counted × Outside place
   GroundOf what.MultipleOver place = ⊥
 
   abbrev pub Grounded : Line → Type 0
@@ -181,11 +193,12 @@ module _ (w : Word) (n servers tasks : ℕ) (line : List ℕ) where
       go false false true = tt
       go false false false = unknown-kind
 
-  number-ground : Counted → (place : ℕ) (x : Number) → numberOf (fieldAt line place) ≡ x → NumberOf x → (next : ℕ → Line) → ((v : ℕ) → Grounded (next v)) → Grounded (field x place next)
-  number-ground c place (number.Value v) e o next h = h v
+  number-ground : Counted → (place : ℕ) (x : Number) → numberOf (fieldAt line place) ≡ x → NumberOf x → (next : ℕ → Line)
+      → ((v : ℕ) → numberOf (fieldAt line place) ≡ number.Value v → Grounded (next v)) → Grounded (field x place next)
+  number-ground c place (number.Value v) e o next h = h v e
   number-ground c place (number.Bad x) e o next h = field-ground place o (record { counted = c; field = inl e })
 
-  at-place : Counted → (place : ℕ) (next : ℕ → Line) → ((v : ℕ) → Grounded (next v)) → Grounded (field (numberOf (fieldAt line place)) place next)
+  at-place : Counted → (place : ℕ) (next : ℕ → Line) → ((v : ℕ) → numberOf (fieldAt line place) ≡ number.Value v → Grounded (next v)) → Grounded (field (numberOf (fieldAt line place)) place next)
   at-place c place next h = number-ground c place (numberOf (fieldAt line place)) refl (number-of (fieldAt line place)) next h
 
   kind-ground : Counted → (x : KindField) → kindOf (fieldAt line 2) ≡ x → KindsOf x → (next : Kind → Line) → ((k : Kind) → Grounded (next k)) → Grounded (kindField x 2 next)
@@ -193,16 +206,18 @@ module _ (w : Word) (n servers tasks : ℕ) (line : List ℕ) where
   kind-ground c (kind.Bad x) e o next h = field-ground 2 o (record { counted = c; field = inr e })
 
   -- a `-` that is allowed is no number's fault
-  or-dash : Counted → (place p : ℕ) (next : ℕ → Line) → ((v : ℕ) → Grounded (next v)) → Grounded (field (deadlineOf (fieldAt line place) p) place next)
-  or-dash c place p next h = go (sameBytes (fieldAt line place) dash)
+  or-dash : Counted → (place p : ℕ) (next : ℕ → Line) → ((v : ℕ) → deadlineOf (fieldAt line place) p ≡ number.Value v → Grounded (next v))
+      → Grounded (field (deadlineOf (fieldAt line place) p) place next)
+  or-dash c place p next h = go (sameBytes (fieldAt line place) dash) h
     where
-      go : (b : Bool) → Grounded (field (pick b (number.Value p) (numberOf (fieldAt line place))) place next)
-      go true = h p
-      go false = at-place c place next h
+      go : (b : Bool) → ((v : ℕ) → pick b (number.Value p) (numberOf (fieldAt line place)) ≡ number.Value v → Grounded (next v))
+          → Grounded (field (pick b (number.Value p) (numberOf (fieldAt line place))) place next)
+      go true g = g p refl
+      go false g = at-place c place next g
 
-  range-ground : Counted → (ok : Bool) (place : ℕ) (next : Line) → Grounded next → Grounded (ranged ok place next)
-  range-ground c true place next h = h
-  range-ground c false place next h = c
+  range-ground : Counted → (ok : Bool) (place : ℕ) (next : Line) → (ok ≡ false → Outside place) → Grounded next → Grounded (ranged ok place next)
+  range-ground c true place next o h = h
+  range-ground c false place next o h = (c, o refl)
 
   count-ground : (k : ℕ) → fieldCount w ≡ k → inPlace w n servers tasks ≡ true → hasRoom w servers tasks ≡ true → (next : Line) → (Counted → Grounded next) → Grounded (counted line k next)
   count-ground k e p r next h = go (eqb (length (fieldsOf line)) k) refl
@@ -222,55 +237,64 @@ module _ (w : Word) (n servers tasks : ℕ) (line : List ℕ) where
 -- ---- each kind of line
 
 module _ (n servers tasks : ℕ) (line : List ℕ) where
+  -- the number at a place, as it was read
+  abbrev At : ℕ → ℕ → Type 0
+  At place v = numberOf (fieldAt line place) ≡ number.Value v
+
   span-ground : Counted word.Span n servers tasks line → Grounded word.Span n servers tasks line
       (pick (sameBytes (fieldAt line 2) dash) (SpanIs 0) (field (numberOf (fieldAt line 2)) 2 (λ h. ranged (inTicks h) 2 (SpanIs h))))
   span-ground c = go (sameBytes (fieldAt line 2) dash)
     where
       go : (b : Bool) → Grounded word.Span n servers tasks line (pick b (SpanIs 0) (field (numberOf (fieldAt line 2)) 2 (λ h. ranged (inTicks h) 2 (SpanIs h))))
       go true = tt
-      go false = at-place word.Span n servers tasks line c 2 _ (λ h. range-ground word.Span n servers tasks line c (inTicks h) 2 (SpanIs h) tt)
+      go false = at-place word.Span n servers tasks line c 2 _ (λ h e. range-ground word.Span n servers tasks line c (inTicks h) 2 (SpanIs h) (span-out e) tt)
 
-  server-ground : Counted word.Server n servers tasks line → (k : Kind) (c t : ℕ) → Grounded word.Server n servers tasks line (serverIs k c t)
-  server-ground x k c t =
-      range-ground word.Server n servers tasks line x (inTicks c && leb c t) 3 _ (range-ground word.Server n servers tasks line x (inTicks t) 4 _ tt)
+  server-ground : Counted word.Server n servers tasks line → (k : Kind) (c t : ℕ) → At 3 c → At 4 t → Grounded word.Server n servers tasks line (serverIs k c t)
+  server-ground x k c t e f =
+      range-ground word.Server n servers tasks line x (inTicks c && leb c t) 3 _ (capacity-out e f)
+      (range-ground word.Server n servers tasks line x (inTicks t) 4 _ (server-period-out f) tt)
 
-  once-ground : Counted word.Once n servers tasks line → (s w i d : ℕ) → Grounded word.Once n servers tasks line (onceIs servers s w i d)
-  once-ground x s w i d =
-      range-ground word.Once n servers tasks line x (between 1 servers s) 2 _
-      (range-ground word.Once n servers tasks line x (inTicks w) 3 _
-      (range-ground word.Once n servers tasks line x (leb i 16000) 4 _ (range-ground word.Once n servers tasks line x (inTicks d) 5 _ tt)))
+  once-ground : Counted word.Once n servers tasks line → (s w i d : ℕ) → At 2 s → At 3 w → At 4 i → At 5 d → Grounded word.Once n servers tasks line (onceIs servers s w i d)
+  once-ground x s w i d a b c e =
+      range-ground word.Once n servers tasks line x (between 1 servers s) 2 _ (server-out a)
+      (range-ground word.Once n servers tasks line x (inTicks w) 3 _ (work-out b)
+      (range-ground word.Once n servers tasks line x (leb i 16000) 4 _ (instant-out c)
+      (range-ground word.Once n servers tasks line x (inTicks d) 5 _ (once-deadline-out e) tt)))
 
-  every-ground : Counted word.Every n servers tasks line → (s w o p d : ℕ) → Grounded word.Every n servers tasks line (everyIs servers s w o p d)
-  every-ground x s w o p d =
-      range-ground word.Every n servers tasks line x (between 1 servers s) 2 _
-      (range-ground word.Every n servers tasks line x (inTicks w) 3 _
-      (range-ground word.Every n servers tasks line x (leb o 16000) 4 _
-      (range-ground word.Every n servers tasks line x (inTicks p) 5 _ (range-ground word.Every n servers tasks line x (inTicks d) 6 _ tt))))
+  every-ground : Counted word.Every n servers tasks line → (s w o p d : ℕ) → At 2 s → At 3 w → At 4 o → At 5 p → deadlineOf (fieldAt line 6) p ≡ number.Value d
+      → Grounded word.Every n servers tasks line (everyIs servers s w o p d)
+  every-ground x s w o p d a b c e f =
+      range-ground word.Every n servers tasks line x (between 1 servers s) 2 _ (server-out a)
+      (range-ground word.Every n servers tasks line x (inTicks w) 3 _ (work-out b)
+      (range-ground word.Every n servers tasks line x (leb o 16000) 4 _ (instant-out c)
+      (range-ground word.Every n servers tasks line x (inTicks p) 5 _ (period-out e)
+      (range-ground word.Every n servers tasks line x (inTicks d) 6 _ (deadline-out p f) tt))))
 
   word-ground : (w : Word) → Grounded w n servers tasks line (byWord w n servers tasks line)
   word-ground word.Span =
       place-ground word.Span n servers tasks line (eqb n 1) refl _ (λ p. count-ground word.Span n servers tasks line 2 refl p refl _ span-ground)
   word-ground word.Server =
       place-ground word.Server n servers tasks line (ltb 1 n && eqb tasks 0) refl _ (λ p.
-        room-ground word.Server n servers tasks line (ltb servers 16) p refl _ (λ r.
-          count-ground word.Server n servers tasks line 4 refl p r _ (λ x.
-            kind-ground word.Server n servers tasks line x (kindOf (fieldAt line 2)) refl (kinds-of word.Server n servers tasks line (fieldAt line 2)) _ (λ k.
-              at-place word.Server n servers tasks line x 3 _ (λ c. at-place word.Server n servers tasks line x 4 _ (λ t. server-ground x k c t))))))
+      room-ground word.Server n servers tasks line (ltb servers 16) p refl _ (λ r.
+      count-ground word.Server n servers tasks line 4 refl p r _ (λ x.
+      kind-ground word.Server n servers tasks line x (kindOf (fieldAt line 2)) refl (kinds-of word.Server n servers tasks line (fieldAt line 2)) _ (λ k.
+      at-place word.Server n servers tasks line x 3 _ (λ c e. at-place word.Server n servers tasks line x 4 _ (λ t f. server-ground x k c t e f))))))
   word-ground word.Once =
       place-ground word.Once n servers tasks line (ltb 0 servers) refl _ (λ p.
-        room-ground word.Once n servers tasks line (ltb tasks 64) p refl _ (λ r.
-          count-ground word.Once n servers tasks line 5 refl p r _ (λ x.
-            at-place word.Once n servers tasks line x 2 _ (λ s.
-              at-place word.Once n servers tasks line x 3 _ (λ w.
-                at-place word.Once n servers tasks line x 4 _ (λ i. at-place word.Once n servers tasks line x 5 _ (λ d. once-ground x s w i d)))))))
+      room-ground word.Once n servers tasks line (ltb tasks 64) p refl _ (λ r.
+      count-ground word.Once n servers tasks line 5 refl p r _ (λ x.
+      at-place word.Once n servers tasks line x 2 _ (λ s a.
+      at-place word.Once n servers tasks line x 3 _ (λ w b.
+      at-place word.Once n servers tasks line x 4 _ (λ i c. at-place word.Once n servers tasks line x 5 _ (λ d e. once-ground x s w i d a b c e)))))))
   word-ground word.Every =
       place-ground word.Every n servers tasks line (ltb 0 servers) refl _ (λ p.
-        room-ground word.Every n servers tasks line (ltb tasks 64) p refl _ (λ r.
-          count-ground word.Every n servers tasks line 6 refl p r _ (λ x.
-            at-place word.Every n servers tasks line x 2 _ (λ s.
-              at-place word.Every n servers tasks line x 3 _ (λ w.
-                at-place word.Every n servers tasks line x 4 _ (λ o.
-                  at-place word.Every n servers tasks line x 5 _ (λ q. or-dash word.Every n servers tasks line x 6 q _ (λ d. every-ground x s w o q d))))))))
+      room-ground word.Every n servers tasks line (ltb tasks 64) p refl _ (λ r.
+      count-ground word.Every n servers tasks line 6 refl p r _ (λ x.
+      at-place word.Every n servers tasks line x 2 _ (λ s a.
+      at-place word.Every n servers tasks line x 3 _ (λ w b.
+      at-place word.Every n servers tasks line x 4 _ (λ o c.
+      at-place word.Every n servers tasks line x 5 _ (λ q e.
+      or-dash word.Every n servers tasks line x 6 q _ (λ d f. every-ground x s w o q d a b c e f))))))))
   word-ground word.Unknown = refl
 
   -- a line is refused on its stated ground and on no other
