@@ -4,3 +4,4 @@ pub mod Spoken
 pub mod Rows
 pub mod Accepted
 pub mod Grounds
+pub mod Why
