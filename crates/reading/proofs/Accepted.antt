@@ -18,14 +18,14 @@ use Rattle.table.specs.declared.Span.the-variants.{Ticks, Over}
 use Rattle.reading.specs.Fields.{linesOf}
 use Rattle.reading.specs.Lines.{lineOf}
 use Rattle.reading.specs.Reading.{noTable, refusal, accepted, withSpan, resolved, endedOf, afterLine, readLines, endsWithFeed, readingOf}
-use Rattle.reading.specs.Pieces.{InRules, withLine}
+use Rattle.reading.specs.Pieces.{withLine}
 use Rattle.reading.specs.declared.What.the-variants as what
 use Rattle.reading.specs.declared.Line.{Line}
 use Rattle.reading.specs.declared.Line.the-variants.{SpanIs, ServerIs, TaskIs, Wrong}
 use Rattle.reading.specs.declared.Answer.{Answer}
 use Rattle.reading.specs.declared.Answer.the-variants.{Accepted, Refused}
 use Rattle.reading.specs.declared.Reading.{Reading}
-use Rattle.reading.proofs.Rows.{Sized, Says, line-says, rules-kept, sized-kept, none-yet, none-sized}
+use Rattle.reading.proofs.Rows.{InRules, Sized, Says, line-says, rules-kept, sized-kept, none-yet, none-sized}
 
 -- ---- an accepted table obeys the rules
 

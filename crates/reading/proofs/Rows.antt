@@ -21,7 +21,7 @@ use Rattle.reading.specs.Fields.{split, allButLast, linesOf, fieldsOf, f
 use Rattle.reading.specs.Lines.{field, ranged, counted, spanLine, kindOf, kindField, serverIs, serverLine, onceIs, onceLine, deadlineOf, everyIs, everyLine, placed, fewer, byWord, lineOf}
 use Rattle.reading.specs.Reading.{noTable, withSpan, withServer, withTask, endedOf, afterLine, readLines}
 use Rattle.reading.specs.declared.Reading.{Reading}
-use Rattle.reading.specs.Pieces.{firstLength, InRules, Room, withLine, goesOn, refusedLine, Feeds}
+use Rattle.reading.specs.Pieces.{firstLength, Room, withLine, goesOn, refusedLine, Feeds}
 use Rattle.reading.specs.declared.Word.{Word}
 use Rattle.reading.specs.declared.Word.the-variants as word
 use Rattle.reading.specs.declared.Number.{Number}
@@ -142,6 +142,13 @@ after-wrong (Wrong w place) t n next e = refl
 
 -- ---- the table stays within its rules
 
+-- a table that has been read so far: its counts and entries obey the rules
+pub record InRules (t : Table) : Type 0 where
+  pub few : t .«servers_n» ≤ 16
+  pub many : t .«tasks_n» ≤ 64
+  pub servers : all serverObeys (serversOf t) ≡ true
+  pub tasks : all (taskObeys (t .«servers_n»)) (tasksOf t) ≡ true
+
 -- the entries with one more
 all-append : {A : Type 0} (f : A → Bool) (l : List A) (a : A) → all f l ≡ true → f a ≡ true → all f (l ++ (a ∷ [])) ≡ true
 unfolding all
@@ -235,14 +242,12 @@ feeds-on l k f h = record {
 -- ---- a reading under way: a table so far, and the rest of the text, of which the first line is line n
 
 pub record Underway (text rest : List ℕ) (t : Table) (n : ℕ) : Type 0 where
-  pub rules : InRules t
-  pub sized : Sized t
   pub feeds : Feeds rest
   pub short : n + length rest ≤ 4097
   pub is : readLines (linesOf rest) t n ≡ readLines (linesOf text) noTable 1
 
 pub underway-start : (text : List ℕ) → Feeds text → length text ≤ 4096 → Underway text text noTable 1
-underway-start text f h = record { rules = none-yet; sized = none-sized; feeds = f; short = omega arith; is = refl }
+underway-start text f h = record { feeds = f; short = omega arith; is = refl }
 
 -- the first line of the rest, and what it says
 abbrev pub firstLine : List ℕ → List ℕ
@@ -270,8 +275,6 @@ module _ {text rest : List ℕ} {t : Table} {n : ℕ} (u : Underway text rest t 
   underway-more h e =
       let k = firstLength 10 rest + 1 in
       record {
-        rules = rules-kept t (said rest t n) (u .sized) (u .rules) (line-says (t .«servers_n») (t .«tasks_n») n (firstLine rest));
-        sized = sized-kept t (said rest t n) (u .sized);
         feeds = feeds-on rest k (u .feeds) (omega (arith, feed-at h));
         short = omega (arith, length-drop k rest, u .short, feed-at h);
         is = sym (after-right (said rest t n) t n (λ v. readLines (linesOf (drop k rest)) v (n + 1)) e) ∙ unread h;

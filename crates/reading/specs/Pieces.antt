@@ -6,7 +6,6 @@ use mathlib.Core.List.{List, [], _∷_}
 use lib.ListN.{length, getD}
 use lib.Dec.{eqb}
 use Rattle.windows.specs.Windows.{pick}
-use Rattle.table.specs.Rules.{all, serverObeys, taskObeys, serversOf, tasksOf}
 use Rattle.table.specs.declared.Table.{Table}
 use Rattle.reading.specs.declared.What.the-variants.{Empty, Misplaced}
 use Rattle.reading.specs.declared.Number.{Number}
@@ -31,13 +30,6 @@ wrongOf (number.Value n) place = Wrong Empty place
 abbrev pub wrongKindOf : KindField → ℕ → Line
 wrongKindOf (kind.Bad what) place = Wrong what place
 wrongKindOf (kind.Is k) place = Wrong Empty place
-
--- a table that has been read so far: its counts and entries obey the rules
-pub record InRules (t : Table) : Type 0 where
-  pub few : t .«servers_n» ≤ 16
-  pub many : t .«tasks_n» ≤ 64
-  pub servers : all serverObeys (serversOf t) ≡ true
-  pub tasks : all (taskObeys (t .«servers_n»)) (tasksOf t) ≡ true
 
 -- there is a place for what a line says
 abbrev pub Room : Table → Line → Type 0

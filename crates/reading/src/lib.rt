@@ -15,7 +15,7 @@ ghost use mathlib.Core.Path.{_≡_};
 ghost use Prim.Native.Nat.{_<_, _≤_};
 ghost use lib.ListN.{length};
 ghost use Rattle.reading.specs.Reading.{noTable, refusal, withSpan, withServer, withTask, endedOf, readLines, readingOf};
-ghost use Rattle.reading.specs.Pieces.{InRules, Room, withLine, goesOn, refusedLine, Feeds};
+ghost use Rattle.reading.specs.Pieces.{Room, withLine, goesOn, refusedLine, Feeds};
 ghost use Rattle.reading.specs.Fields.{linesOf};
 
 // What can be wrong with a text.
@@ -150,7 +150,6 @@ fn with_span(table: Table, span: u32) -> Table
 
 // A table whose lines have all been read: what is missing, and the span that all periods give, if it was left open.
 fn ended(table: Table, line: u32) -> Reading
-    requires { ⌜ InRules table ⌝ }
     ensures { λ r. ⌜ r ≡ endedOf table line ⌝ }
 {
     if table.servers_n < 1 {

@@ -13,7 +13,7 @@ use table::Kind;
 use table::Release;
 use table::Server;
 use table::Task;
-use table::rules::in_ticks;
+use table::ranges::in_ticks;
 ghost use mathlib.Core.Path.{_≡_};
 ghost use mathlib.Core.List.{[]};
 ghost use Prim.Native.Nat.{_≤_, _<_};

@@ -2,13 +2,13 @@
 use Prim.Native.Nat.{ℕ, zero, suc, _+_, _%_, _≤_, _<_, _∣_}
 use mathlib.Core.Path.{_≡_, refl, sym, ap, _∙_}
 use mathlib.Core.List.{List, [], _∷_, _++_, append-assoc, append-nil}
-use mathlib.Core.Bool.{Bool, true, false, _&&_}
+use mathlib.Core.Bool.{Bool, true, false, true≢false, _&&_}
 use native.Mathlib.Omega.{arith}
-use native.Mathlib.Nat.{dvd-refl, dvd-trans, le-of-dvd, mod-eq-zero-of-dvd, dvd-of-mod-eq-zero}
+use native.Mathlib.Nat.{dvd-refl, dvd-trans, le-of-dvd, pos-of-dvd-of-pos, mod-eq-zero-of-dvd, dvd-of-mod-eq-zero}
 use native.Mathlib.Decide.{ℕ-discrete}
 use lib.ListN.{length, getD, take, drop}
 use lib.Dec.{eqb, leb}
-use borrow.Author.Tests.{eqb-true, leb-true}
+use borrow.Author.Tests.{eqb-true, leb-true, le-leb}
 use Rattle.windows.specs.Windows.{pick}
 use Rattle.windows.proofs.Ticks.{and-left, and-right}
 use Rattle.table.specs.Rules.{all, between, inTicks, serverObeys, releaseObeys, taskObeys, noServer, noTask}
@@ -45,6 +45,16 @@ joins-large m p r l h = record {
   leads = λ whole ahead s n z b d.
       let x = s .into n d in
       omega (arith, le-of-dvd z (l .least n (x .0) (x .1 .0)));
+}
+
+-- what a number of 1 to 16,000 divides by is one of them
+divisor-in-ticks : (p n : ℕ) → 0 < n → n ≤ 16000 → p ∣ n → inTicks p ≡ true
+divisor-in-ticks p n z b d = rw (le-leb 1 p (pos-of-dvd-of-pos d z), le-leb p 16000 (omega (arith, le-of-dvd z d)))
+
+pub joins-outside : (m p : ℕ) → inTicks p ≡ false → JoinsAll (Ticks m) (p ∷ []) Over
+joins-outside m p e = record {
+  bounded = tt;
+  leads = λ whole ahead s n z b d. true≢false (sym (divisor-in-ticks p n z b (s .into n d .1 .0)) ∙ e);
 }
 
 pub joins-none : (span : Span) → InSpan span → JoinsAll span [] span
@@ -127,28 +137,6 @@ passing-step {rs = rs} {more} p e j = record {
 
 pub passing-end : {span joint : Span} {ps qs : List ℕ} → Passing span ps qs joint → qs ≡ [] → JoinsAll span ps joint
 passing-end p e = record { bounded = p .bounded; leads = λ whole ahead s. rw e at (p .leads whole ahead s) }
-
--- ---- the periods of a table's entries are within their range
-
-pub server-period : (s : Server) → serverObeys s ≡ true → (0 < s .period) × (s .period ≤ 16000)
-server-period s h =
-    let a = inTicks (s .capacity) in
-    let b = leb (s .capacity) (s .period) in
-    let q = and-left (inTicks (s .period)) b (and-right a (inTicks (s .period) && b) h) in
-    (leb-true _ _ (and-left (leb 1 (s .period)) (leb (s .period) 16000) q), leb-true _ _ (and-right (leb 1 (s .period)) (leb (s .period) 16000) q))
-
-pub task-release : (n : ℕ) (k : Task) → taskObeys n k ≡ true → releaseObeys (k .release) ≡ true
-task-release n k h =
-    let a = between 1 n (k .server) in
-    let b = inTicks (k .work) in
-    let c = releaseObeys (k .release) in
-    let d = inTicks (k .deadline) in
-    and-left c d (and-right b (c && d) (and-right a (b && (c && d)) h))
-
-pub every-period : (offset period : ℕ) → releaseObeys (Every offset period) ≡ true → (0 < period) × (period ≤ 16000)
-every-period offset period h =
-    let q = and-right (leb offset 16000) (inTicks period) h in
-    (leb-true _ _ (and-left (leb 1 period) (leb period 16000) q), leb-true _ _ (and-right (leb 1 period) (leb period 16000) q))
 
 pub every-append : (r : Release) (l : List ℕ) → everyPeriod r l ≡ everyPeriod r [] ++ l
 every-append (Once instant) l = refl

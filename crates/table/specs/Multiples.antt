@@ -1,5 +1,6 @@
 -- What the walk over all periods keeps: cited by the contracts of the functions that make it.
 use Prim.Native.Nat.{ℕ, _≤_, _<_, _∣_}
+use mathlib.Core.Path.{_≡_}
 use mathlib.Core.List.{List, [], _∷_, _++_}
 use Rattle.table.specs.declared.Span.{Span}
 use Rattle.table.specs.declared.Span.the-variants.{Ticks, Over}
@@ -29,3 +30,8 @@ InSpan Over = Unit {0}
 pub record JoinsAll (span : Span) (periods : List ℕ) (r : Span) : Type 0 where
   pub bounded : InSpan r
   pub leads : (whole ahead : List ℕ) → Spans whole (periods ++ ahead) span → Spans whole ahead r
+
+-- as many entries as are counted, but no more than there are places
+pub record Stored (count room n : ℕ) : Type 0 where
+  pub few : count < room → n ≡ count
+  pub full : room ≤ count → n ≡ room

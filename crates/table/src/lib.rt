@@ -1,7 +1,8 @@
 // The table of servers and tasks, the rules that it obeys, and the span that its periods give.
 mod euclid;
 pub mod multiples;
-pub mod rules;
+pub mod ranges;
+mod rules;
 
 ghost use mathlib.Core.Path.{_≡_};
 ghost use Rattle.table.specs.Rules.{obeys};
@@ -50,13 +51,13 @@ pub enum Span {
 pub fn obeys_rules(table: Table) -> bool
     ensures { λ r. ⌜ r ≡ obeys table ⌝ }
 {
-    if !rules::within(table.servers_n, 16) {
+    if !ranges::within(table.servers_n, 16) {
         return false;
     }
-    if !rules::within(table.tasks_n, 64) {
+    if !ranges::within(table.tasks_n, 64) {
         return false;
     }
-    if !rules::in_ticks(table.span) {
+    if !ranges::in_ticks(table.span) {
         return false;
     }
     if !rules::servers_obey(table) {

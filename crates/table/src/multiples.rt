@@ -3,22 +3,34 @@ use crate::Release;
 use crate::Span;
 use crate::Table;
 use crate::euclid::lcm;
+use crate::ranges::in_ticks;
 ghost use mathlib.Core.Path.{_≡_};
-ghost use mathlib.Core.Bool.{true};
 ghost use mathlib.Core.List.{[], _∷_};
-ghost use Prim.Native.Nat.{_≤_, _<_};
-ghost use Rattle.table.specs.Rules.{all, serverObeys, releaseObeys, taskObeys, serversOf, tasksOf};
+ghost use Rattle.table.specs.Rules.{serversOf, tasksOf};
 ghost use Rattle.table.specs.Span.{serverPeriods, everyPeriod, taskPeriods, periodsOf, spanOf};
-ghost use Rattle.table.specs.Multiples.{InSpan, JoinsAll};
+ghost use Rattle.table.specs.Multiples.{Stored, InSpan, JoinsAll};
+
+// How many of `count` entries an array of `room` places holds.
+fn stored(count: usize, room: usize) -> usize
+    ensures { λ r. ⌜ Stored count room r ⌝ }
+{
+    if count < room {
+        return count;
+    }
+    room
+}
 
 // The least common multiple of a span and a period, or that it is above 16,000.
 fn joined(span: Span, period: u32) -> Span
-    requires { ⌜ InSpan span × (0 < period) × (period ≤ 16000) ⌝ }
+    requires { ⌜ InSpan span ⌝ }
     ensures { λ r. ⌜ JoinsAll span (period ∷ []) r ⌝ }
 {
     let Span::Ticks(ticks) = span else {
         return Span::Over;
     };
+    if !in_ticks(period) {
+        return Span::Over;
+    }
     let m = lcm(ticks, period);
     if 16000 < m {
         return Span::Over;
@@ -28,7 +40,7 @@ fn joined(span: Span, period: u32) -> Span
 
 // The span with the period of a task, if it is released every period.
 fn with_release(span: Span, release: Release) -> Span
-    requires { ⌜ InSpan span × (releaseObeys release ≡ true) ⌝ }
+    requires { ⌜ InSpan span ⌝ }
     ensures { λ r. ⌜ JoinsAll span (everyPeriod release []) r ⌝ }
 {
     match release {
@@ -39,10 +51,10 @@ fn with_release(span: Span, release: Release) -> Span
 
 // The span with the periods of all servers.
 fn with_servers(table: Table, span: Span) -> Span
-    requires { ⌜ InSpan span × (table .«servers_n» ≤ 16) × (all serverObeys (serversOf table) ≡ true) ⌝ }
+    requires { ⌜ InSpan span ⌝ }
     ensures { λ r. ⌜ JoinsAll span (serverPeriods (serversOf table)) r ⌝ }
 {
-    let n = table.servers_n;
+    let n = stored(table.servers_n, 16);
     let mut joint = span;
     let mut i: usize = 0;
     while i < n {
@@ -55,10 +67,10 @@ fn with_servers(table: Table, span: Span) -> Span
 
 // The span with the periods of all tasks that have one.
 fn with_tasks(table: Table, span: Span) -> Span
-    requires { ⌜ InSpan span × (table .«tasks_n» ≤ 64) × (all (taskObeys (table .«servers_n»)) (tasksOf table) ≡ true) ⌝ }
+    requires { ⌜ InSpan span ⌝ }
     ensures { λ r. ⌜ JoinsAll span (taskPeriods (tasksOf table)) r ⌝ }
 {
-    let n = table.tasks_n;
+    let n = stored(table.tasks_n, 64);
     let mut joint = span;
     let mut i: usize = 0;
     while i < n {
@@ -70,10 +82,8 @@ fn with_tasks(table: Table, span: Span) -> Span
     joint
 }
 
-// The least common multiple of all server periods and all `every` periods, or that it is above 16,000.
+// The least common multiple of all server periods and all `every` periods, or that it is above 16,000. No number divides by a period of 0.
 pub fn common_span(table: Table) -> Span
-    requires { ⌜ (table .«servers_n» ≤ 16) × (table .«tasks_n» ≤ 64)
-        × (all serverObeys (serversOf table) ≡ true) × (all (taskObeys (table .«servers_n»)) (tasksOf table) ≡ true) ⌝ }
     ensures { λ r. ⌜ r ≡ spanOf (periodsOf (serversOf table) (tasksOf table)) ⌝ }
 {
     let span = with_servers(table, Span::Ticks(1));

@@ -3,29 +3,10 @@ use crate::Release;
 use crate::Server;
 use crate::Table;
 use crate::Task;
+use crate::ranges::in_ticks;
 ghost use mathlib.Core.Path.{_≡_};
 ghost use Prim.Native.Nat.{_≤_};
-ghost use Rattle.table.specs.Rules.{all, between, inTicks, serverObeys, releaseObeys, taskObeys, serversOf, tasksOf};
-
-// Whether a count is 1 to `most`.
-pub fn within(n: usize, most: usize) -> bool
-    ensures { λ r. ⌜ r ≡ between 1 most n ⌝ }
-{
-    if n < 1 {
-        return false;
-    }
-    n <= most
-}
-
-// Whether a number of ticks is 1 to 16,000.
-pub fn in_ticks(n: u32) -> bool
-    ensures { λ r. ⌜ r ≡ inTicks n ⌝ }
-{
-    if n < 1 {
-        return false;
-    }
-    n <= 16000
-}
+ghost use Rattle.table.specs.Rules.{all, serverObeys, releaseObeys, taskObeys, serversOf, tasksOf};
 
 fn server_obeys(server: Server) -> bool
     ensures { λ r. ⌜ r ≡ serverObeys server ⌝ }

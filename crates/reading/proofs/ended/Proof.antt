@@ -27,7 +27,7 @@ returns-3 c =
     rw (lt-ltb 0 (c .before .before .before .before .before .before .args .table .«servers_n») (c .before .before .before .before .if1 .left), lt-ltb 0 (c .before .before .before .before .before .before .args .table .«tasks_n») (c .before .before .if2 .left), ne-eqb _ _ (c .if3 .taken))
 
 common-span-requires : tie.Need-common-span-requires
-common-span-requires c κs = let p = c .before .before .before .before .before .before .pre in (p .few, p .many, p .servers, p .tasks)
+common-span-requires c κs = search needs
 
 enum-known-span : tie.Need-enum-known-span
 enum-known-span c = search needs

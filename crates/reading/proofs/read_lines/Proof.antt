@@ -81,7 +81,7 @@ loop-again c =
     (underway-more (c .before .before .before .before .before .before .before .before .loop .inv) (c .before .before .before .before .before .before .before .loop-test .taken) (rw (says (c .before .before .before .before)) at g))
 
 ended-requires : tie.Need-ended-requires Inv-loop μ-loop
-ended-requires c κs = c .before .loop .inv .rules
+ended-requires c κs = search needs
 
 returns-2 : tie.Need-returns-2 Inv-loop μ-loop
 returns-2 c = c .ended .ensures ∙ underway-end (c .before .before .loop .inv) (c .before .loop-test .left)

@@ -1,6 +1,6 @@
 -- `table::multiples::with_release` meets its contract, by the cases of a release.
 use mathlib.Core.Path.{_≡_, refl}
-use Rattle.table.proofs.Spans.{joins-none, every-period}
+use Rattle.table.proofs.Spans.{joins-none}
 use borrow.Author.Needs.{needs}
 use borrow.Author.Needs.{needs}
 use Rattle.table.proofs.multiples.with_release.Statement.{statement}
@@ -13,10 +13,10 @@ enum-known-release : tie.Need-enum-known-release
 enum-known-release c = search needs
 
 joined-requires : tie.Need-joined-requires
-joined-requires c κs = let b = every-period (c .before .release .given .0 .0) (c .before .release .given .0 .1 .0) (rw (c .before .release .given .1) at (c .before .before .before .pre .1)) in (c .before .before .before .pre .0, b .0, b .1)
+joined-requires c κs = c .before .before .before .pre
 
 returns : tie.Need-returns
-returns c = rw (c .enum-told .given .1) (joins-none _ (c .before .before .pre .0))
+returns c = rw (c .enum-told .given .1) (joins-none _ (c .before .before .pre))
 
 returns-2 : tie.Need-returns-2
 returns-2 c = rw (c .before .before .release .given .1) (c .joined .ensures)

@@ -1,40 +1,42 @@
 -- `table::multiples::with_tasks` meets its contract. The loop's invariant: of the periods of all tasks, those from i on are still to come.
-use Prim.Native.Nat.{ℕ, _+_, _-_, _≤_, _<_}
-use mathlib.Core.Path.{_≡_, refl, sym, ap, _∙_}
-use mathlib.Core.Bool.{true}
+use Prim.Native.Nat.{_-_, _≤_}
+use mathlib.Core.Path.{_≡_, sym, ap}
 use native.Mathlib.Omega.{arith}
-use lib.ListN.{length, getD, drop}
-use Rattle.table.specs.Rules.{all, taskObeys, noTask, tasksOf}
+use lib.ListN.{length, take, drop}
 use Rattle.table.specs.Span.{taskPeriods}
-use Rattle.table.proofs.Entries.{entry-end, all-at, length-mapped}
-use Rattle.table.proofs.Spans.{Passing, passing-start, passing-end, task-release, task-passed}
+use Rattle.table.proofs.Entries.{entry-end, length-mapped, stored-room, stored-take}
+use Rattle.table.proofs.Spans.{Passing, passing-start, passing-end, task-passed}
 use borrow.Author.Needs.{needs}
 use Rattle.table.proofs.multiples.with_tasks.Statement.{statement}
 use Rattle.table.proofs.multiples.with_tasks.Tie as tie
 
 abbrev Inv-loop : tie.InvT-loop
-Inv-loop table n joint₀ i₀ joint i = (all (taskObeys (table .«servers_n»)) (drop i (tasksOf table)) ≡ true) × Passing joint₀ (taskPeriods (tasksOf table)) (taskPeriods (drop i (tasksOf table))) joint
+Inv-loop table n joint₀ i₀ joint i = Passing joint₀ (taskPeriods (take n (table .tasks))) (taskPeriods (drop i (take n (table .tasks)))) joint
 
 abbrev μ-loop : tie.MeasureT-loop
 μ-loop table n joint₀ i₀ joint i = n - i
 
--- the table has so many entries
-enough : (c : tie.At-loop Inv-loop μ-loop) → c .before .args .t1 .«tasks_n» ≤ length (c .before .args .t1 .tasks)
-enough c = let h : length (c .before .args .t1 .tasks) ≡ 64 = search (needs, length-mapped) in omega (arith, c .before .pre .1)
+-- the table has so many places
+places : (c : tie.After-stored Inv-loop μ-loop) → length (c .before .args .t1 .tasks) ≡ 64
+places c = search (needs, length-mapped)
+
+enough : (c : tie.After-stored Inv-loop μ-loop) → c .stored .result ≤ length (c .before .args .t1 .tasks)
+enough c = omega (arith, places c, stored-room (c .stored .ensures))
+
+stored-requires : tie.Need-stored-requires Inv-loop μ-loop
+stored-requires c κs = search needs
 
 loop-holds : tie.Need-loop-holds Inv-loop μ-loop
-loop-holds c = (c .pre .2, passing-start _ _ (c .pre .0))
+loop-holds c = passing-start _ _ (c .before .pre)
 
 mul-task : tie.Need-mul-task Inv-loop μ-loop
-mul-task c = search needs
+mul-task c = let h : c .before .before .stored .result ≤ 64 = stored-room (c .before .before .stored .ensures) in search needs
 
 element-copy-out-task : tie.Need-element-copy-out-task Inv-loop μ-loop
-element-copy-out-task c = omega (arith, enough (c .before))
+element-copy-out-task c = omega (arith, stored-room (c .before .before .stored .ensures))
 
 with-release-requires : tie.Need-with-release-requires Inv-loop μ-loop
-with-release-requires c κs =
-    let f = taskObeys (c .before .before .before .args .t1 .«servers_n») in
-    (c .before .before .loop .inv .1 .bounded, task-release (c .before .before .before .args .t1 .«servers_n») (getD (c .before .before .before .args .t1 .tasks) (c .before .before .loop .i) noTask) (all-at _ _ (enough (c .before .before)) f noTask (c .before .before .loop .i) (c .before .loop-test .taken) (c .before .before .loop .inv .0) .0))
+with-release-requires c κs = c .before .before .loop .inv .bounded
 
 add-i : tie.Need-add-i Inv-loop μ-loop
 add-i c = search needs
@@ -44,14 +46,14 @@ loop-less c = search needs
 
 loop-again : tie.Need-loop-again Inv-loop μ-loop
 loop-again c =
-    let f = taskObeys (c .before .before .before .before .args .t1 .«servers_n») in (
-      all-at _ _ (enough (c .before .before .before)) f noTask (c .before .before .before .loop .i) (c .before .before .loop-test .taken) (c .before .before .before .loop .inv .0) .1,
-      task-passed _ _ _ (enough (c .before .before .before)) (c .before .before .loop-test .taken) (c .before .before .before .loop .inv .1) (c .with-release .ensures),
-    )
+    task-passed _ _ _ (enough (c .before .before .before .before)) (c .before .before .loop-test .taken) (c .before .before .before .loop .inv) (c .with-release .ensures)
 
 returns : tie.Need-returns Inv-loop μ-loop
 unfolding taskPeriods
-returns c = passing-end (c .before .loop .inv .1) (ap taskPeriods (entry-end _ _ (enough (c .before)) (c .before .loop .i) (c .loop-test .left)))
+returns c =
+    let t = c .before .before .before .args .t1 in
+    let e : take (c .before .before .stored .result) (t .tasks) ≡ take (t .«tasks_n») (t .tasks) = stored-take (c .before .before .stored .ensures) (t .tasks) (places (c .before .before)) in
+    rw (sym e) (passing-end (c .before .loop .inv) (ap taskPeriods (entry-end _ _ (enough (c .before .before)) (c .before .loop .i) (c .loop-test .left))))
 
 pub with-tasks-spec : {M : Type 1} → statement M
 with-tasks-spec =
@@ -59,6 +61,7 @@ with-tasks-spec =
     (tie.spec
     Inv-loop
     μ-loop
+    stored-requires
     loop-holds
     mul-task
     element-copy-out-task

@@ -1,8 +1,8 @@
--- `table::rules::in_ticks` meets its contract.
+-- `table::ranges::in_ticks` meets its contract.
 use mathlib.Core.Path.{_≡_, refl}
 use borrow.Author.Tests.{le-leb, lt-leb}
-use Rattle.table.proofs.rules.in_ticks.Statement.{statement}
-use Rattle.table.proofs.rules.in_ticks.Tie as tie
+use Rattle.table.proofs.ranges.in_ticks.Statement.{statement}
+use Rattle.table.proofs.ranges.in_ticks.Tie as tie
 
 returns : tie.Need-returns
 returns c = rw (lt-leb _ _ (c .if1 .taken))

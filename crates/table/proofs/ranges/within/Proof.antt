@@ -1,8 +1,8 @@
--- `table::rules::within` meets its contract.
+-- `table::ranges::within` meets its contract.
 use mathlib.Core.Path.{_≡_, refl}
 use borrow.Author.Tests.{le-leb, lt-leb}
-use Rattle.table.proofs.rules.within.Statement.{statement}
-use Rattle.table.proofs.rules.within.Tie as tie
+use Rattle.table.proofs.ranges.within.Statement.{statement}
+use Rattle.table.proofs.ranges.within.Tie as tie
 
 returns : tie.Need-returns
 returns c = rw (lt-leb _ _ (c .if1 .taken))
