@@ -8,18 +8,18 @@
 mod printing;
 mod reading;
 
-use printing::flush;
-use printing::put_bad;
+use batch::ends;
+use batch::flush;
+use batch::next_line;
+use batch::put_bad;
+use batch::whole_lines;
 use printing::put_fitted;
 use printing::put_provided;
 use printing::put_written;
-use reading::ends;
 use reading::lend_room;
-use reading::next_line;
 use reading::next_number;
 use reading::read_curve;
 use reading::read_number;
-use reading::whole_lines;
 ghost use Prim.Native.Nat.{_≤_};
 
 // How many bytes of standard input are read.

@@ -1,57 +1,12 @@
-// Writing answers: `n` bytes wait at the front of `out` until it is full, and are then written to standard output at once. Each function
-// answers how many bytes wait after it.
+// Writing answers: `n` bytes wait at the front of `out`, and each function answers how many wait after it.
 ghost use Prim.Native.Nat.{_≤_};
+use batch::put_byte;
+use batch::put_number;
+use batch::put_word;
 use curves::Fitted;
 use curves::Ground;
 use curves::Provided;
 use curves::Written;
-
-// Writes the bytes that wait.
-pub fn flush(out: &[u8; 65536], n: usize)
-    requires { ⌜ n ≤ 65536 ⌝ }
-{
-    let bytes: &[u8] = out;
-    io::write_all(libc::STDOUT_FILENO, &bytes[..n]);
-}
-
-// Puts one byte.
-fn put_byte(out: &mut [u8; 65536], n: usize, byte: u8) -> usize
-    requires { ⌜ n ≤ 65536 ⌝ }
-    ensures { λ r. ⌜ r ≤ 65536 ⌝ }
-{
-    if n < 65536 {
-        out[n] = byte;
-        return n + 1;
-    }
-    flush(out, n);
-    out[0] = byte;
-    1
-}
-
-// Puts the bytes of a word.
-fn put_word(out: &mut [u8; 65536], n: usize, word: &[u8]) -> usize
-    requires { ⌜ n ≤ 65536 ⌝ }
-    ensures { λ r. ⌜ r ≤ 65536 ⌝ }
-{
-    let mut m = n;
-    let mut i: usize = 0;
-    while i < word.len() {
-        m = put_byte(out, m, word[i]);
-        i += 1;
-    }
-    m
-}
-
-// Puts a space and a number in decimal.
-fn put_number(out: &mut [u8; 65536], n: usize, value: u64) -> usize
-    requires { ⌜ n ≤ 65536 ⌝ }
-    ensures { λ r. ⌜ r ≤ 65536 ⌝ }
-{
-    let m = put_byte(out, n, b' ');
-    let mut digits = [0u8; 20];
-    let k = io::decimal(value, &mut digits);
-    put_word(out, m, &digits[..k])
-}
 
 // Puts a refusal: its number, and its line, which is 0 at every call on curves.
 fn put_ground(out: &mut [u8; 65536], n: usize, ground: Ground) -> usize
@@ -160,12 +115,4 @@ pub fn put_provided(out: &mut [u8; 65536], n: usize, answer: Provided) -> usize
 {
     let m = put_time(out, n, answer);
     put_byte(out, m, b'\n')
-}
-
-// Puts the answer to a line that is no call.
-pub fn put_bad(out: &mut [u8; 65536], n: usize) -> usize
-    requires { ⌜ n ≤ 65536 ⌝ }
-    ensures { λ r. ⌜ r ≤ 65536 ⌝ }
-{
-    put_word(out, n, b"bad\n")
 }

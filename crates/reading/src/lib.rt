@@ -14,7 +14,7 @@ use table::multiples::common_span;
 ghost use mathlib.Core.Path.{_≡_};
 ghost use Prim.Native.Nat.{_<_, _≤_};
 ghost use lib.ListN.{length};
-ghost use Rattle.reading.specs.Reading.{noTable, refusal, withSpan, withServer, withTask, endedOf, readLines, readingOf};
+ghost use Rattle.reading.specs.Reading.{numberOf, noTable, refusal, withSpan, withServer, withTask, endedOf, readLines, readingOf};
 ghost use Rattle.reading.specs.Pieces.{Room, withLine, goesOn, refusedLine, Feeds};
 ghost use Rattle.reading.specs.Fields.{linesOf};
 
@@ -231,6 +231,28 @@ fn read_lines(text: &[u8]) -> Reading
         n += 1;
     }
     ended(table, n)
+}
+
+// 01's number for what is wrong.
+pub fn number_of(what: What) -> u32
+    ensures { λ r. ⌜ r ≡ numberOf what ⌝ }
+{
+    match what {
+        What::TextTooLong => 1,
+        What::NotEnded => 2,
+        What::Misplaced => 3,
+        What::Missing => 3,
+        What::TooMany => 7,
+        What::FieldCount => 4,
+        What::Empty => 5,
+        What::Dash => 5,
+        What::NoDigit => 5,
+        What::LeadingZero => 5,
+        What::TooManyDigits => 5,
+        What::UnknownKind => 5,
+        What::OutOfRange => 6,
+        What::MultipleOver => 8,
+    }
 }
 
 // Reads a table's text: the table, or what is wrong with the text.

@@ -7,7 +7,6 @@ use lib.ListN.{length}
 use Rattle.windows.specs.Windows.{isPlain, addUp}
 use Rattle.curves.specs.Refusals.{fitsIn}
 use borrow.Author.Needs.{needs}
-use borrow.Author.Needs.{needs}
 use Rattle.curves.proofs.add.Statement.{statement}
 use Rattle.curves.proofs.add.Tie as tie
 

@@ -10,7 +10,6 @@ use Rattle.windows.specs.Windows.{isPlain, cutAt, endOf}
 use Rattle.windows.proofs.Ticks.{plain-apart, plain-end}
 use Rattle.windows.proofs.Cutting.{cut-end}
 use borrow.Author.Needs.{needs}
-use borrow.Author.Needs.{needs}
 use Rattle.curves.proofs.cut.Statement.{statement}
 use Rattle.curves.proofs.cut.Tie as tie
 

@@ -5,7 +5,6 @@ use mathlib.Core.Bool.{true, false, _&&_, and-false}
 use native.Mathlib.Omega.{arith}
 use borrow.Author.Tests.{eq-eqb, ne-eqb, lt-ltb, le-ltb}
 use borrow.Author.Needs.{needs}
-use borrow.Author.Needs.{needs}
 use Rattle.reading.proofs.ended.Statement.{statement}
 use Rattle.reading.proofs.ended.Tie as tie
 

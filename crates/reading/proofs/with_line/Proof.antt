@@ -1,7 +1,6 @@
 -- `reading::with_line` meets its contract, by the cases of a line.
 use mathlib.Core.Path.{_≡_, refl}
 use borrow.Author.Needs.{needs}
-use borrow.Author.Needs.{needs}
 use Rattle.reading.proofs.with_line.Statement.{statement}
 use Rattle.reading.proofs.with_line.Tie as tie
 

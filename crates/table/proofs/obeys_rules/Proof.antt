@@ -7,7 +7,6 @@ use borrow.Author.Tests.{not-true, not-false, leb-true}
 use Rattle.windows.proofs.Ticks.{and-right}
 use Rattle.table.specs.Rules.{between, inTicks, all, serverObeys, serversOf}
 use borrow.Author.Needs.{needs}
-use borrow.Author.Needs.{needs}
 use Rattle.table.proofs.obeys_rules.Statement.{statement}
 use Rattle.table.proofs.obeys_rules.Tie as tie
 

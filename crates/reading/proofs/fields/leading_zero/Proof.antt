@@ -2,7 +2,6 @@
 use mathlib.Core.Path.{_≡_, refl}
 use borrow.Author.Tests.{eq-eqb, ne-eqb}
 use borrow.Author.Needs.{needs}
-use borrow.Author.Needs.{needs}
 use Rattle.reading.proofs.fields.leading_zero.Statement.{statement}
 use Rattle.reading.proofs.fields.leading_zero.Tie as tie
 

@@ -7,7 +7,6 @@ use borrow.Author.Tests.{eq-eqb, ne-eqb, not-true, not-false, le-leb, lt-leb}
 use Rattle.table.specs.Rules.{all}
 use Rattle.reading.specs.Fields.{isDigit, sameBytes, dash}
 use borrow.Author.Needs.{needs}
-use borrow.Author.Needs.{needs}
 use Rattle.reading.proofs.fields.number.Statement.{statement}
 use Rattle.reading.proofs.fields.number.Tie as tie
 

@@ -2,7 +2,6 @@
 use mathlib.Core.Path.{_≡_, refl, sym, _∙_}
 use mathlib.Core.Bool.{true, false}
 use borrow.Author.Needs.{needs}
-use borrow.Author.Needs.{needs}
 use Rattle.reading.proofs.fields.word.Statement.{statement}
 use Rattle.reading.proofs.fields.word.Tie as tie
 

@@ -9,7 +9,6 @@ use Rattle.reading.specs.Lines.{deadlineOf}
 use Rattle.reading.specs.declared.Number.{Number}
 use Rattle.reading.specs.declared.Number.the-variants.{Value}
 use borrow.Author.Needs.{needs}
-use borrow.Author.Needs.{needs}
 use Rattle.reading.proofs.lines.deadline.Statement.{statement}
 use Rattle.reading.proofs.lines.deadline.Tie as tie
 

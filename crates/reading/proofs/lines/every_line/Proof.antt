@@ -8,7 +8,6 @@ use lib.ListN.{length, getD}
 use mathlib.Core.List.{List}
 use Rattle.reading.specs.Lines.{kindOf, deadlineOf}
 use borrow.Author.Needs.{needs}
-use borrow.Author.Needs.{needs}
 use Rattle.reading.proofs.lines.every_line.Statement.{statement}
 use Rattle.reading.proofs.lines.every_line.Tie as tie
 

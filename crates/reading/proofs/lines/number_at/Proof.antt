@@ -1,7 +1,6 @@
 -- `reading::lines::number_at` meets its contract.
 use mathlib.Core.Path.{_≡_, refl}
 use borrow.Author.Needs.{needs}
-use borrow.Author.Needs.{needs}
 use Rattle.reading.proofs.lines.number_at.Statement.{statement}
 use Rattle.reading.proofs.lines.number_at.Tie as tie
 

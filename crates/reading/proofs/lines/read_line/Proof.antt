@@ -6,7 +6,6 @@ use borrow.Author.Tests.{eq-eqb, ne-eqb, lt-ltb, le-ltb}
 use Rattle.reading.specs.Fields.{wordOf}
 use Rattle.reading.proofs.Splits.{pieces-some}
 use borrow.Author.Needs.{needs}
-use borrow.Author.Needs.{needs}
 use Rattle.reading.proofs.lines.read_line.Statement.{statement}
 use Rattle.reading.proofs.lines.read_line.Tie as tie
 

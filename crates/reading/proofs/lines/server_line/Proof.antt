@@ -7,7 +7,6 @@ use borrow.Author.Tests.{eq-eqb, ne-eqb, le-leb, lt-leb, not-true, not-false}
 use lib.ListN.{length, getD}
 use Rattle.reading.specs.Lines.{kindOf, deadlineOf}
 use borrow.Author.Needs.{needs}
-use borrow.Author.Needs.{needs}
 use Rattle.reading.proofs.lines.server_line.Statement.{statement}
 use Rattle.reading.proofs.lines.server_line.Tie as tie
 

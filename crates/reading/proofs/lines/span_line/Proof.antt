@@ -9,7 +9,6 @@ use Rattle.reading.specs.Fields.{sameBytes, dash}
 use Rattle.reading.specs.Lines.{spanLine}
 use Rattle.reading.proofs.Spoken.{span-count, span-dash, span-bad, span-over, span-is}
 use borrow.Author.Needs.{needs}
-use borrow.Author.Needs.{needs}
 use Rattle.reading.proofs.lines.span_line.Statement.{statement}
 use Rattle.reading.proofs.lines.span_line.Tie as tie
 

@@ -1,7 +1,6 @@
 -- `reading::lines::wrong` meets its contract.
 use mathlib.Core.Path.{_≡_, refl}
 use borrow.Author.Needs.{needs}
-use borrow.Author.Needs.{needs}
 use Rattle.reading.proofs.lines.wrong.Statement.{statement}
 use Rattle.reading.proofs.lines.wrong.Tie as tie
 

@@ -1,7 +1,6 @@
 -- `reading::lines::wrong_kind` meets its contract.
 use mathlib.Core.Path.{_≡_, refl}
 use borrow.Author.Needs.{needs}
-use borrow.Author.Needs.{needs}
 use Rattle.reading.proofs.lines.wrong_kind.Statement.{statement}
 use Rattle.reading.proofs.lines.wrong_kind.Tie as tie
 

@@ -4,7 +4,6 @@ use native.Mathlib.Nat.{le-trans, div-le-self, mul-le-mul}
 use mir.Facts.{fits-le, fits-lit}
 use Rattle.table.proofs.Divisors.{g-some, lcm-is}
 use borrow.Author.Needs.{needs}
-use borrow.Author.Needs.{needs}
 use Rattle.table.proofs.euclid.lcm.Statement.{statement}
 use Rattle.table.proofs.euclid.lcm.Tie as tie
 

@@ -4,7 +4,6 @@ use Prim.Native.Nat.{_≤_}
 use native.Mathlib.Omega.{arith}
 use Rattle.table.proofs.Spans.{joins-both, joined-all}
 use borrow.Author.Needs.{needs}
-use borrow.Author.Needs.{needs}
 use Rattle.table.proofs.multiples.common_span.Statement.{statement}
 use Rattle.table.proofs.multiples.common_span.Tie as tie
 

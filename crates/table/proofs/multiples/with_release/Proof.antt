@@ -2,7 +2,6 @@
 use mathlib.Core.Path.{_≡_, refl}
 use Rattle.table.proofs.Spans.{joins-none}
 use borrow.Author.Needs.{needs}
-use borrow.Author.Needs.{needs}
 use Rattle.table.proofs.multiples.with_release.Statement.{statement}
 use Rattle.table.proofs.multiples.with_release.Tie as tie
 

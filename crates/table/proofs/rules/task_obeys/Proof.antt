@@ -5,7 +5,6 @@ use mathlib.Core.Bool.{true, false, _&&_}
 use borrow.Author.Tests.{not-true, not-false, le-leb, lt-leb}
 use Rattle.table.specs.Rules.{between}
 use borrow.Author.Needs.{needs}
-use borrow.Author.Needs.{needs}
 use Rattle.table.proofs.rules.task_obeys.Statement.{statement}
 use Rattle.table.proofs.rules.task_obeys.Tie as tie
 

@@ -6,7 +6,6 @@ use lib.ListN.{length}
 use Rattle.curves.proofs.Stretches.{Ahead, ahead-at}
 use Rattle.curves.proofs.Pieces.{supply-none, piece-done, piece-unwanted, piece-rest, piece-passed, piece-side, piece-served, piece-used}
 use borrow.Author.Needs.{needs}
-use borrow.Author.Needs.{needs}
 use Rattle.curves.proofs.fitting.Place.next.Statement.{statement}
 use Rattle.curves.proofs.fitting.Place.next.Tie as tie
 

@@ -1,12 +1,12 @@
--- `curve_calls::reading::whole_lines` meets its contract. The loop's invariant: no more bytes than the text has. Assumes nothing.
+-- `batch::whole_lines` meets its contract. The loop's invariant: no more bytes than the text has. Assumes nothing.
 use Prim.Native.Nat.{_≤_}
 use mathlib.Core.Path.{sym}
 use native.Mathlib.Omega.{arith}
 use lib.ListN.{length}
 use lib.Seq.{length-take-le}
 use borrow.Author.Needs.{needs}
-use Rattle.curve_calls.proofs.reading.whole_lines.Statement.{statement}
-use Rattle.curve_calls.proofs.reading.whole_lines.Tie as tie
+use Rattle.batch.proofs.whole_lines.Statement.{statement}
+use Rattle.batch.proofs.whole_lines.Tie as tie
 
 abbrev Inv-loop : tie.InvT-loop
 Inv-loop text n₀ n = n ≤ length text

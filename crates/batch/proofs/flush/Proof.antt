@@ -1,10 +1,10 @@
--- `curve_calls::printing::flush` meets its contract: as many bytes are lent as wait. Assumes nothing.
+-- `batch::flush` meets its contract: as many bytes are lent as wait. Assumes nothing.
 use mathlib.Core.Path.{sym}
 use native.Mathlib.Omega.{arith}
 use lib.Seq.{length-take-le}
 use borrow.Author.Needs.{needs}
-use Rattle.curve_calls.proofs.printing.flush.Statement.{statement}
-use Rattle.curve_calls.proofs.printing.flush.Tie as tie
+use Rattle.batch.proofs.flush.Statement.{statement}
+use Rattle.batch.proofs.flush.Tie as tie
 
 slice-aggregate-write-all : tie.Need-slice-aggregate-write-all
 slice-aggregate-write-all c = sym (length-take-le _ _ (omega arith))

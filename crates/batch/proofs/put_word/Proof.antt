@@ -1,10 +1,10 @@
--- `curve_calls::printing::put_word` meets its contract. The loop's invariant: no more bytes wait than the output has room for. Assumes
+-- `batch::put_word` meets its contract. The loop's invariant: no more bytes wait than the output has room for. Assumes
 -- nothing.
 use Prim.Native.Nat.{_-_, _≤_}
 use lib.ListN.{length}
 use borrow.Author.Needs.{needs}
-use Rattle.curve_calls.proofs.printing.put_word.Statement.{statement}
-use Rattle.curve_calls.proofs.printing.put_word.Tie as tie
+use Rattle.batch.proofs.put_word.Statement.{statement}
+use Rattle.batch.proofs.put_word.Tie as tie
 
 abbrev Inv-loop : tie.InvT-loop
 Inv-loop out₀ n word m₀ i₀ out m i = (m ≤ 65536) × (i ≤ length word)

@@ -1,10 +1,10 @@
--- `curve_calls::reading::next_line` meets its contract. The loop's invariant: the place is not before the first, and not behind the text.
+-- `batch::next_line` meets its contract. The loop's invariant: the place is not before the first, and not behind the text.
 -- Assumes nothing.
 use Prim.Native.Nat.{_-_, _≤_}
 use lib.ListN.{length}
 use borrow.Author.Needs.{needs}
-use Rattle.curve_calls.proofs.reading.next_line.Statement.{statement}
-use Rattle.curve_calls.proofs.reading.next_line.Tie as tie
+use Rattle.batch.proofs.next_line.Statement.{statement}
+use Rattle.batch.proofs.next_line.Tie as tie
 
 abbrev Inv-loop : tie.InvT-loop
 Inv-loop text at i₀ i = (at ≤ i) × (i ≤ length text)

@@ -1,0 +1,92 @@
+// Reads the tables whose texts standard input has, one a line, and writes for each what reading answers. A table's text is written as two
+// lowercase hexadecimal digits for each byte; a line that starts with `#` is copied. The answer is `refused number line place`, or
+//     span h | server kind c t .. | once server work instant deadline | every server work offset period deadline ..
+// A line of any other form, or one with more than 5,000 bytes of text, is answered by `bad`.
+mod decoding;
+mod printing;
+
+use batch::flush;
+use batch::next_line;
+use batch::put_bad;
+use batch::put_word;
+use batch::whole_lines;
+use decoding::decode;
+use printing::put_reading;
+ghost use Prim.Native.Nat.{_≤_, _<_};
+ghost use lib.ListN.{length};
+
+// How many bytes of standard input are read.
+const INPUT: usize = 1_048_576;
+
+// The most bytes that a table's text may have here.
+const MOST: usize = 5000;
+
+// Puts what reading answers to a text.
+fn answer_text(text: &[u8], out: &mut [u8; 65536], n: usize) -> usize
+    requires { ⌜ n ≤ 65536 ⌝ }
+    ensures { λ r. ⌜ r ≤ 65536 ⌝ }
+{
+    let read = reading::read(text);
+    put_reading(out, n, read)
+}
+
+// Reads the table of a line of digits.
+fn run_digits(line: &[u8], out: &mut [u8; 65536], n: usize) -> usize
+    requires { ⌜ n ≤ 65536 ⌝ }
+    ensures { λ r. ⌜ r ≤ 65536 ⌝ }
+{
+    let mut text = [0u8; MOST];
+    let decoded = decode(line, &mut text);
+    if !decoded.whole {
+        return put_bad(out, n);
+    }
+    let k = decoded.count;
+    answer_text(&text[..k], out, n)
+}
+
+// Answers a line, with its line feed.
+fn run_line(line: &[u8], out: &mut [u8; 65536], n: usize) -> usize
+    requires { ⌜ (0 < length (now line)) × (n ≤ 65536) ⌝ }
+    ensures { λ r. ⌜ r ≤ 65536 ⌝ }
+{
+    if line[0] == b'#' {
+        return put_word(out, n, line);
+    }
+    run_digits(line, out, n)
+}
+
+// Answers the lines of an input.
+fn run_lines(input: &[u8]) {
+    let mut out = [0u8; 65536];
+    let mut n: usize = 0;
+    let mut at: usize = 0;
+    while at < input.len() {
+        let behind = next_line(input, at);
+        n = run_line(&input[at..behind], &mut out, n);
+        at = behind;
+    }
+    flush(&out, n);
+}
+
+// Answers the lines that an input has whole.
+fn run_whole_lines(input: &[u8]) {
+    let n = whole_lines(input);
+    run_lines(&input[..n]);
+}
+
+// Reads standard input and answers its lines.
+fn run_input(room: &mut [u8; INPUT]) {
+    let n = io::read_full(libc::STDIN_FILENO, room);
+    let input: &[u8] = room;
+    if n < INPUT {
+        run_lines(&input[..n]);
+    } else {
+        run_whole_lines(input);
+    }
+}
+
+// Lends the array for standard input.
+fn main() {
+    let mut room = [0u8; INPUT];
+    run_input(&mut room);
+}
