@@ -79,79 +79,37 @@ impl Place {
                 return Piece::Done;
             }
             let s = larger(supply[0], self.free);
-            return Piece::Left(
-                s,
-                supply[1],
-                2,
-                Place {
-                    at,
-                    wanted,
-                    free: 0,
-                },
-            );
+            let e = supply[1];
+            let free = 0;
+            return Piece::Left(s, e, 2, Place { at, wanted, free });
         }
         let q = larger(demand[at], wanted);
         if supply.len() < 2 {
-            return Piece::Rest(
-                q,
-                demand[at + 1],
-                0,
-                Place {
-                    at: at + 2,
-                    wanted: 0,
-                    free: 0,
-                },
-            );
+            let end = demand[at + 1];
+            let at = at + 2;
+            let wanted = 0;
+            let free = 0;
+            return Piece::Rest(q, end, 0, Place { at, wanted, free });
         }
         let s = larger(supply[0], self.free);
         let e = supply[1];
         if e <= q {
-            return Piece::Left(
-                s,
-                e,
-                2,
-                Place {
-                    at,
-                    wanted,
-                    free: 0,
-                },
-            );
+            let free = 0;
+            return Piece::Left(s, e, 2, Place { at, wanted, free });
         }
         if s < q {
-            return Piece::Left(
-                s,
-                q,
-                0,
-                Place {
-                    at,
-                    wanted,
-                    free: q,
-                },
-            );
+            let free = q;
+            return Piece::Left(s, q, 0, Place { at, wanted, free });
         }
         let r = self.stretch(demand, s, e);
+        let at = r.at;
+        let wanted = r.wanted;
         if r.till < e {
-            return Piece::Served(
-                s,
-                r.till,
-                0,
-                Place {
-                    at: r.at,
-                    wanted: r.wanted,
-                    free: r.till,
-                },
-            );
+            let free = r.till;
+            return Piece::Served(s, r.till, 0, Place { at, wanted, free });
         }
-        Piece::Served(
-            s,
-            e,
-            2,
-            Place {
-                at: r.at,
-                wanted: r.wanted,
-                free: 0,
-            },
-        )
+        let free = 0;
+        Piece::Served(s, e, 2, Place { at, wanted, free })
     }
 }
 

@@ -26,8 +26,8 @@ shared-slice-read-larger c = search needs
 larger-requires : tie.Need-larger-requires
 larger-requires c κs = search needs
 
-shared-slice-read-t16 : tie.Need-shared-slice-read-t16
-shared-slice-read-t16 c = search needs
+shared-slice-read-e : tie.Need-shared-slice-read-e
+shared-slice-read-e c = search needs
 
 returns-2 : tie.Need-returns-2
 returns-2 c =
@@ -42,17 +42,17 @@ shared-slice-read-larger-2 c = search needs
 larger-requires-2 : tie.Need-larger-requires-2
 larger-requires-2 c κs = search needs
 
-add-t21 : tie.Need-add-t21
-add-t21 c = search needs
+add-end : tie.Need-add-end
+add-end c = search needs
 
-mul-t22 : tie.Need-mul-t22
-mul-t22 c = search needs
+mul-end : tie.Need-mul-end
+mul-end c = search needs
 
-shared-slice-read-t24 : tie.Need-shared-slice-read-t24
-shared-slice-read-t24 c = omega (arith, wants (c .before .before .before .before) .pair)
+shared-slice-read-end : tie.Need-shared-slice-read-end
+shared-slice-read-end c = omega (arith, wants (c .before .before .before .before) .pair)
 
-add-t25 : tie.Need-add-t25
-add-t25 c = search needs
+add-at : tie.Need-add-at
+add-at c = search needs
 
 returns-3 : tie.Need-returns-3
 returns-3 c = rw (c .before .before .larger2 .ensures) (piece-rest (c .before .before .before .before .before .before .before .pre) (wants (c .before .before .before .before)) (supply-none (c .before .before .before .before .before .before .before .pre) (c .before .if3 .taken)))
@@ -63,8 +63,8 @@ shared-slice-read-larger-3 c = search needs
 larger-requires-3 : tie.Need-larger-requires-3
 larger-requires-3 c κs = search needs
 
-shared-slice-read-e : tie.Need-shared-slice-read-e
-shared-slice-read-e c = search needs
+shared-slice-read-e-2 : tie.Need-shared-slice-read-e-2
+shared-slice-read-e-2 c = search needs
 
 returns-4 : tie.Need-returns-4
 returns-4 c =
@@ -107,19 +107,19 @@ next-spec =
     returns
     shared-slice-read-larger
     larger-requires
-    shared-slice-read-t16
+    shared-slice-read-e
     returns-2
     mul-larger
     shared-slice-read-larger-2
     larger-requires-2
-    add-t21
-    mul-t22
-    shared-slice-read-t24
-    add-t25
+    add-end
+    mul-end
+    shared-slice-read-end
+    add-at
     returns-3
     shared-slice-read-larger-3
     larger-requires-3
-    shared-slice-read-e
+    shared-slice-read-e-2
     returns-4
     returns-5
     stretch-requires
