@@ -3,6 +3,7 @@ use Prim.Native.Nat.{ℕ, _<_}
 use mathlib.Core.Path.{_≡_, refl, sym, _∙_}
 use mathlib.Core.Bool.{true, false}
 use native.Mathlib.Omega.{arith}
+use lib.ListN.{length}
 use borrow.Author.Tests.{eq-eqb, ne-eqb, not-true, not-false, le-leb, lt-leb}
 use Rattle.table.specs.Rules.{all}
 use Rattle.reading.specs.Fields.{isDigit, sameBytes, dash}
@@ -50,7 +51,7 @@ returns-5 c =
       no-dash (c .before .before .before .before .before),
       digits-so (c .before .before .before),
       sym (c .before .before .leading-zero .ensures) ∙ c .before .if4 .left,
-      lt-leb _ _ (c .if5 .taken),
+      lt-leb (length (c .before .before .before .before .before .before .before .before .before .before .args .field .now)) 5 (omega (arith, c .if5 .taken)),
     )
 
 value-requires : tie.Need-value-requires

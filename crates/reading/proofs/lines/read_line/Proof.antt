@@ -52,7 +52,7 @@ returns-4 c =
       ap wordOf (sym (c .before .before .before .before .before .before .field .ensures)) ∙ sym (c .before .before .before .before .before .word .ensures) ∙ c .before .before .before .«enum-told2» .given .1,
       lt-ltb _ _ (c .before .before .if2 .left),
       eq-eqb _ _ (c .before .if3 .left),
-      le-ltb _ _ (c .if4 .taken),
+      le-ltb (c .before .before .before .before .before .before .before .before .args .servers) 16 (omega (arith, c .if4 .taken)),
     )
 
 server-line-requires : tie.Need-server-line-requires
