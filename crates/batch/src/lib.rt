@@ -6,18 +6,17 @@ ghost use lib.ListN.{length};
 ghost use Rattle.io.specs.Counts.{Counts};
 
 // Writes the bytes that wait.
-pub fn flush(out: &[u8; 65536], n: usize)
-    requires { ⌜ n ≤ 65536 ⌝ }
-{
+pub fn flush(out: &[u8; 65536], n: usize) {
     let bytes: &[u8] = out;
-    io::write_all(libc::STDOUT_FILENO, &bytes[..n]);
+    if n < 65536 {
+        io::write_all(libc::STDOUT_FILENO, &bytes[..n]);
+        return;
+    }
+    io::write_all(libc::STDOUT_FILENO, bytes);
 }
 
 // Puts one byte.
-pub fn put_byte(out: &mut [u8; 65536], n: usize, byte: u8) -> usize
-    requires { ⌜ n ≤ 65536 ⌝ }
-    ensures { λ r. ⌜ r ≤ 65536 ⌝ }
-{
+pub fn put_byte(out: &mut [u8; 65536], n: usize, byte: u8) -> usize {
     if n < 65536 {
         out[n] = byte;
         return n + 1;
@@ -28,10 +27,7 @@ pub fn put_byte(out: &mut [u8; 65536], n: usize, byte: u8) -> usize
 }
 
 // Puts the bytes of a word.
-pub fn put_word(out: &mut [u8; 65536], n: usize, word: &[u8]) -> usize
-    requires { ⌜ n ≤ 65536 ⌝ }
-    ensures { λ r. ⌜ r ≤ 65536 ⌝ }
-{
+pub fn put_word(out: &mut [u8; 65536], n: usize, word: &[u8]) -> usize {
     let mut m = n;
     let mut i: usize = 0;
     while i < word.len() {
@@ -42,10 +38,7 @@ pub fn put_word(out: &mut [u8; 65536], n: usize, word: &[u8]) -> usize
 }
 
 // Puts a space and a number in decimal.
-pub fn put_number(out: &mut [u8; 65536], n: usize, value: u64) -> usize
-    requires { ⌜ n ≤ 65536 ⌝ }
-    ensures { λ r. ⌜ r ≤ 65536 ⌝ }
-{
+pub fn put_number(out: &mut [u8; 65536], n: usize, value: u64) -> usize {
     let m = put_byte(out, n, b' ');
     let mut digits = [0u8; 20];
     let k = io::decimal(value, &mut digits);
@@ -53,10 +46,7 @@ pub fn put_number(out: &mut [u8; 65536], n: usize, value: u64) -> usize
 }
 
 // Puts the answer to a line that asks for nothing.
-pub fn put_bad(out: &mut [u8; 65536], n: usize) -> usize
-    requires { ⌜ n ≤ 65536 ⌝ }
-    ensures { λ r. ⌜ r ≤ 65536 ⌝ }
-{
+pub fn put_bad(out: &mut [u8; 65536], n: usize) -> usize {
     put_word(out, n, b"bad\n")
 }
 
@@ -70,8 +60,7 @@ pub fn ends(text: &[u8], at: usize) -> bool {
 
 // The place behind the first line feed that stands at a place or behind it, or the end of the text.
 pub fn next_line(text: &[u8], at: usize) -> usize
-    requires { ⌜ at < length (now text) ⌝ }
-    ensures { λ r. ⌜ (at < r) × (r ≤ length (now (text .entry))) ⌝ }
+    ensures { λ r. ⌜ (at < length (now (text .entry)) → (at < r) × (r ≤ length (now (text .entry)))) ⌝ }
 {
     let mut i = at;
     while i < text.len() {

@@ -20,7 +20,6 @@ use reading::lend_room;
 use reading::next_number;
 use reading::read_curve;
 use reading::read_number;
-ghost use Prim.Native.Nat.{_≤_};
 
 // How many bytes of standard input are read.
 const TEXT: usize = 1_048_576;
@@ -29,10 +28,7 @@ const TEXT: usize = 1_048_576;
 const MOST: usize = 4096;
 
 // Adds up two curves, and puts the answer and the lent buffer.
-fn answer_add(a: &[u32], b: &[u32], sum: &mut [u32], out: &mut [u8; 65536], n: usize) -> usize
-    requires { ⌜ n ≤ 65536 ⌝ }
-    ensures { λ r. ⌜ r ≤ 65536 ⌝ }
-{
+fn answer_add(a: &[u32], b: &[u32], sum: &mut [u32], out: &mut [u8; 65536], n: usize) -> usize {
     let answer = curves::add(a, b, sum);
     put_written(out, n, answer, sum)
 }
@@ -44,10 +40,7 @@ fn answer_cut(
     parts: &mut [u32],
     out: &mut [u8; 65536],
     n: usize,
-) -> usize
-    requires { ⌜ n ≤ 65536 ⌝ }
-    ensures { λ r. ⌜ r ≤ 65536 ⌝ }
-{
+) -> usize {
     let answer = curves::cut(curve, period, parts);
     put_written(out, n, answer, parts)
 }
@@ -61,19 +54,13 @@ fn answer_fit(
     rest: &mut [u32],
     out: &mut [u8; 65536],
     n: usize,
-) -> usize
-    requires { ⌜ n ≤ 65536 ⌝ }
-    ensures { λ r. ⌜ r ≤ 65536 ⌝ }
-{
+) -> usize {
     let answer = curves::fit(demand, supply, left, served, rest);
     put_fitted(out, n, answer, left, served, rest)
 }
 
 // Runs the rest of a line that asks for adding up, and answers how many bytes wait after it.
-fn run_add(text: &[u8], at: usize, out: &mut [u8; 65536], n: usize) -> usize
-    requires { ⌜ n ≤ 65536 ⌝ }
-    ensures { λ r. ⌜ r ≤ 65536 ⌝ }
-{
+fn run_add(text: &[u8], at: usize, out: &mut [u8; 65536], n: usize) -> usize {
     let mut a = [0u32; MOST];
     let mut b = [0u32; MOST];
     let mut sum = [0u32; MOST];
@@ -90,10 +77,7 @@ fn run_add(text: &[u8], at: usize, out: &mut [u8; 65536], n: usize) -> usize
 }
 
 // Runs the rest of a line that asks for cutting.
-fn run_cut(text: &[u8], at: usize, out: &mut [u8; 65536], n: usize) -> usize
-    requires { ⌜ n ≤ 65536 ⌝ }
-    ensures { λ r. ⌜ r ≤ 65536 ⌝ }
-{
+fn run_cut(text: &[u8], at: usize, out: &mut [u8; 65536], n: usize) -> usize {
     let mut curve = [0u32; MOST];
     let mut parts = [0u32; MOST];
     let period = next_number(text, at);
@@ -108,10 +92,7 @@ fn run_cut(text: &[u8], at: usize, out: &mut [u8; 65536], n: usize) -> usize
 }
 
 // Runs the rest of a line that asks for fitting.
-fn run_fit(text: &[u8], at: usize, out: &mut [u8; 65536], n: usize) -> usize
-    requires { ⌜ n ≤ 65536 ⌝ }
-    ensures { λ r. ⌜ r ≤ 65536 ⌝ }
-{
+fn run_fit(text: &[u8], at: usize, out: &mut [u8; 65536], n: usize) -> usize {
     let mut demand = [0u32; MOST];
     let mut supply = [0u32; MOST];
     let mut left = [0u32; MOST];
@@ -142,10 +123,7 @@ fn run_fit(text: &[u8], at: usize, out: &mut [u8; 65536], n: usize) -> usize
 }
 
 // Runs the rest of a line that asks for the time to provide.
-fn run_provide(text: &[u8], at: usize, out: &mut [u8; 65536], n: usize) -> usize
-    requires { ⌜ n ≤ 65536 ⌝ }
-    ensures { λ r. ⌜ r ≤ 65536 ⌝ }
-{
+fn run_provide(text: &[u8], at: usize, out: &mut [u8; 65536], n: usize) -> usize {
     let mut curve = [0u32; MOST];
     let amount = next_number(text, at);
     let size = read_curve(text, amount.behind, &mut curve);
@@ -158,10 +136,7 @@ fn run_provide(text: &[u8], at: usize, out: &mut [u8; 65536], n: usize) -> usize
 }
 
 // Runs the call of the line that starts at a place.
-fn run_line(text: &[u8], at: usize, out: &mut [u8; 65536], n: usize) -> usize
-    requires { ⌜ n ≤ 65536 ⌝ }
-    ensures { λ r. ⌜ r ≤ 65536 ⌝ }
-{
+fn run_line(text: &[u8], at: usize, out: &mut [u8; 65536], n: usize) -> usize {
     let number = read_number(text, at);
     let call = number.value;
     match call {

@@ -1,5 +1,4 @@
 // Writing answers: `n` bytes wait at the front of `out`, and each function answers how many wait after it.
-ghost use Prim.Native.Nat.{_≤_};
 use batch::put_byte;
 use batch::put_number;
 use batch::put_word;
@@ -9,10 +8,7 @@ use curves::Provided;
 use curves::Written;
 
 // Puts a refusal: its number, and its line, which is 0 at every call on curves.
-fn put_ground(out: &mut [u8; 65536], n: usize, ground: Ground) -> usize
-    requires { ⌜ n ≤ 65536 ⌝ }
-    ensures { λ r. ⌜ r ≤ 65536 ⌝ }
-{
+fn put_ground(out: &mut [u8; 65536], n: usize, ground: Ground) -> usize {
     match ground {
         Ground::ArgumentZero => put_word(out, n, b"refused 12 0"),
         Ground::NotPlain => put_word(out, n, b"refused 10 0"),
@@ -21,10 +17,7 @@ fn put_ground(out: &mut [u8; 65536], n: usize, ground: Ground) -> usize
 }
 
 // Puts what adding up or cutting answered.
-fn put_count(out: &mut [u8; 65536], n: usize, answer: Written) -> usize
-    requires { ⌜ n ≤ 65536 ⌝ }
-    ensures { λ r. ⌜ r ≤ 65536 ⌝ }
-{
+fn put_count(out: &mut [u8; 65536], n: usize, answer: Written) -> usize {
     match answer {
         Written::Count(count) => {
             let m = put_word(out, n, b"count");
@@ -35,10 +28,7 @@ fn put_count(out: &mut [u8; 65536], n: usize, answer: Written) -> usize
 }
 
 // Puts what fitting answered.
-fn put_counts(out: &mut [u8; 65536], n: usize, answer: Fitted) -> usize
-    requires { ⌜ n ≤ 65536 ⌝ }
-    ensures { λ r. ⌜ r ≤ 65536 ⌝ }
-{
+fn put_counts(out: &mut [u8; 65536], n: usize, answer: Fitted) -> usize {
     match answer {
         Fitted::Counts(left, served, rest) => {
             let n1 = put_word(out, n, b"counts");
@@ -51,10 +41,7 @@ fn put_counts(out: &mut [u8; 65536], n: usize, answer: Fitted) -> usize
 }
 
 // Puts what time to provide answered.
-fn put_time(out: &mut [u8; 65536], n: usize, answer: Provided) -> usize
-    requires { ⌜ n ≤ 65536 ⌝ }
-    ensures { λ r. ⌜ r ≤ 65536 ⌝ }
-{
+fn put_time(out: &mut [u8; 65536], n: usize, answer: Provided) -> usize {
     match answer {
         Provided::At(t) => {
             let m = put_word(out, n, b"at");
@@ -66,10 +53,7 @@ fn put_time(out: &mut [u8; 65536], n: usize, answer: Provided) -> usize
 }
 
 // Puts a bar and every number of a lent buffer.
-fn put_lent(out: &mut [u8; 65536], n: usize, lent: &[u32]) -> usize
-    requires { ⌜ n ≤ 65536 ⌝ }
-    ensures { λ r. ⌜ r ≤ 65536 ⌝ }
-{
+fn put_lent(out: &mut [u8; 65536], n: usize, lent: &[u32]) -> usize {
     let mut m = put_word(out, n, b" |");
     let mut i: usize = 0;
     while i < lent.len() {
@@ -80,10 +64,7 @@ fn put_lent(out: &mut [u8; 65536], n: usize, lent: &[u32]) -> usize
 }
 
 // Puts the line of adding up or cutting: the answer and the lent buffer.
-pub fn put_written(out: &mut [u8; 65536], n: usize, answer: Written, lent: &[u32]) -> usize
-    requires { ⌜ n ≤ 65536 ⌝ }
-    ensures { λ r. ⌜ r ≤ 65536 ⌝ }
-{
+pub fn put_written(out: &mut [u8; 65536], n: usize, answer: Written, lent: &[u32]) -> usize {
     let n1 = put_count(out, n, answer);
     let n2 = put_lent(out, n1, lent);
     put_byte(out, n2, b'\n')
@@ -97,10 +78,7 @@ pub fn put_fitted(
     left: &[u32],
     served: &[u32],
     rest: &[u32],
-) -> usize
-    requires { ⌜ n ≤ 65536 ⌝ }
-    ensures { λ r. ⌜ r ≤ 65536 ⌝ }
-{
+) -> usize {
     let n1 = put_counts(out, n, answer);
     let n2 = put_lent(out, n1, left);
     let n3 = put_lent(out, n2, served);
@@ -109,10 +87,7 @@ pub fn put_fitted(
 }
 
 // Puts the line of time to provide.
-pub fn put_provided(out: &mut [u8; 65536], n: usize, answer: Provided) -> usize
-    requires { ⌜ n ≤ 65536 ⌝ }
-    ensures { λ r. ⌜ r ≤ 65536 ⌝ }
-{
+pub fn put_provided(out: &mut [u8; 65536], n: usize, answer: Provided) -> usize {
     let m = put_time(out, n, answer);
     put_byte(out, m, b'\n')
 }

@@ -12,7 +12,7 @@ use batch::put_word;
 use batch::whole_lines;
 use decoding::decode;
 use printing::put_reading;
-ghost use Prim.Native.Nat.{_≤_, _<_};
+ghost use Prim.Native.Nat.{_<_};
 ghost use lib.ListN.{length};
 
 // How many bytes of standard input are read.
@@ -22,19 +22,13 @@ const INPUT: usize = 1_048_576;
 const MOST: usize = 5000;
 
 // Puts what reading answers to a text.
-fn answer_text(text: &[u8], out: &mut [u8; 65536], n: usize) -> usize
-    requires { ⌜ n ≤ 65536 ⌝ }
-    ensures { λ r. ⌜ r ≤ 65536 ⌝ }
-{
+fn answer_text(text: &[u8], out: &mut [u8; 65536], n: usize) -> usize {
     let read = reading::read(text);
     put_reading(out, n, read)
 }
 
 // Reads the table of a line of digits.
-fn run_digits(line: &[u8], out: &mut [u8; 65536], n: usize) -> usize
-    requires { ⌜ n ≤ 65536 ⌝ }
-    ensures { λ r. ⌜ r ≤ 65536 ⌝ }
-{
+fn run_digits(line: &[u8], out: &mut [u8; 65536], n: usize) -> usize {
     let mut text = [0u8; MOST];
     let decoded = decode(line, &mut text);
     if !decoded.whole {
@@ -46,8 +40,7 @@ fn run_digits(line: &[u8], out: &mut [u8; 65536], n: usize) -> usize
 
 // Answers a line, with its line feed.
 fn run_line(line: &[u8], out: &mut [u8; 65536], n: usize) -> usize
-    requires { ⌜ (0 < length (now line)) × (n ≤ 65536) ⌝ }
-    ensures { λ r. ⌜ r ≤ 65536 ⌝ }
+    requires { ⌜ 0 < length (now line) ⌝ }
 {
     if line[0] == b'#' {
         return put_word(out, n, line);

@@ -11,21 +11,14 @@ use table::Release;
 use table::Server;
 use table::Table;
 use table::Task;
-ghost use Prim.Native.Nat.{_≤_};
 
 // Puts a space and a number of a table.
-fn put_field(out: &mut [u8; 65536], n: usize, value: u32) -> usize
-    requires { ⌜ n ≤ 65536 ⌝ }
-    ensures { λ r. ⌜ r ≤ 65536 ⌝ }
-{
+fn put_field(out: &mut [u8; 65536], n: usize, value: u32) -> usize {
     put_number(out, n, value as u64)
 }
 
 // Puts a refusal: its number, line and place.
-fn put_fault(out: &mut [u8; 65536], n: usize, fault: Fault) -> usize
-    requires { ⌜ n ≤ 65536 ⌝ }
-    ensures { λ r. ⌜ r ≤ 65536 ⌝ }
-{
+fn put_fault(out: &mut [u8; 65536], n: usize, fault: Fault) -> usize {
     let what = fault.what;
     let n1 = put_word(out, n, b"refused");
     let n2 = put_field(out, n1, number_of(what));
@@ -34,10 +27,7 @@ fn put_fault(out: &mut [u8; 65536], n: usize, fault: Fault) -> usize
 }
 
 // Puts a server's kind.
-fn put_kind(out: &mut [u8; 65536], n: usize, kind: Kind) -> usize
-    requires { ⌜ n ≤ 65536 ⌝ }
-    ensures { λ r. ⌜ r ≤ 65536 ⌝ }
-{
+fn put_kind(out: &mut [u8; 65536], n: usize, kind: Kind) -> usize {
     match kind {
         Kind::Deferrable => put_word(out, n, b" | server deferrable"),
         Kind::Periodic => put_word(out, n, b" | server periodic"),
@@ -45,10 +35,7 @@ fn put_kind(out: &mut [u8; 65536], n: usize, kind: Kind) -> usize
 }
 
 // Puts a server.
-fn put_server(out: &mut [u8; 65536], n: usize, server: Server) -> usize
-    requires { ⌜ n ≤ 65536 ⌝ }
-    ensures { λ r. ⌜ r ≤ 65536 ⌝ }
-{
+fn put_server(out: &mut [u8; 65536], n: usize, server: Server) -> usize {
     let kind = server.kind;
     let n1 = put_kind(out, n, kind);
     let n2 = put_field(out, n1, server.capacity);
@@ -56,10 +43,7 @@ fn put_server(out: &mut [u8; 65536], n: usize, server: Server) -> usize
 }
 
 // Puts the servers of a table.
-fn put_servers(out: &mut [u8; 65536], n: usize, table: Table) -> usize
-    requires { ⌜ n ≤ 65536 ⌝ }
-    ensures { λ r. ⌜ r ≤ 65536 ⌝ }
-{
+fn put_servers(out: &mut [u8; 65536], n: usize, table: Table) -> usize {
     let mut m = n;
     let mut i: usize = 0;
     while i < 16 {
@@ -74,19 +58,13 @@ fn put_servers(out: &mut [u8; 65536], n: usize, table: Table) -> usize
 }
 
 // Puts which server a task has, and its work.
-fn put_work(out: &mut [u8; 65536], n: usize, task: Task) -> usize
-    requires { ⌜ n ≤ 65536 ⌝ }
-    ensures { λ r. ⌜ r ≤ 65536 ⌝ }
-{
+fn put_work(out: &mut [u8; 65536], n: usize, task: Task) -> usize {
     let m = put_field(out, n, task.server);
     put_field(out, m, task.work)
 }
 
 // Puts a task.
-fn put_task(out: &mut [u8; 65536], n: usize, task: Task) -> usize
-    requires { ⌜ n ≤ 65536 ⌝ }
-    ensures { λ r. ⌜ r ≤ 65536 ⌝ }
-{
+fn put_task(out: &mut [u8; 65536], n: usize, task: Task) -> usize {
     let release = task.release;
     match release {
         Release::Once(instant) => {
@@ -106,10 +84,7 @@ fn put_task(out: &mut [u8; 65536], n: usize, task: Task) -> usize
 }
 
 // Puts the tasks of a table.
-fn put_tasks(out: &mut [u8; 65536], n: usize, table: Table) -> usize
-    requires { ⌜ n ≤ 65536 ⌝ }
-    ensures { λ r. ⌜ r ≤ 65536 ⌝ }
-{
+fn put_tasks(out: &mut [u8; 65536], n: usize, table: Table) -> usize {
     let mut m = n;
     let mut i: usize = 0;
     while i < 64 {
@@ -124,10 +99,7 @@ fn put_tasks(out: &mut [u8; 65536], n: usize, table: Table) -> usize
 }
 
 // Puts a table.
-fn put_table(out: &mut [u8; 65536], n: usize, table: Table) -> usize
-    requires { ⌜ n ≤ 65536 ⌝ }
-    ensures { λ r. ⌜ r ≤ 65536 ⌝ }
-{
+fn put_table(out: &mut [u8; 65536], n: usize, table: Table) -> usize {
     let n1 = put_word(out, n, b"span");
     let n2 = put_field(out, n1, table.span);
     let n3 = put_servers(out, n2, table);
@@ -135,10 +107,7 @@ fn put_table(out: &mut [u8; 65536], n: usize, table: Table) -> usize
 }
 
 // Puts what reading answered to a text.
-fn put_answer(out: &mut [u8; 65536], n: usize, read: Reading) -> usize
-    requires { ⌜ n ≤ 65536 ⌝ }
-    ensures { λ r. ⌜ r ≤ 65536 ⌝ }
-{
+fn put_answer(out: &mut [u8; 65536], n: usize, read: Reading) -> usize {
     let answer = read.answer;
     let table = read.table;
     match answer {
@@ -148,10 +117,7 @@ fn put_answer(out: &mut [u8; 65536], n: usize, read: Reading) -> usize
 }
 
 // Puts the line of a text.
-pub fn put_reading(out: &mut [u8; 65536], n: usize, read: Reading) -> usize
-    requires { ⌜ n ≤ 65536 ⌝ }
-    ensures { λ r. ⌜ r ≤ 65536 ⌝ }
-{
+pub fn put_reading(out: &mut [u8; 65536], n: usize, read: Reading) -> usize {
     let m = put_answer(out, n, read);
     put_byte(out, m, b'\n')
 }

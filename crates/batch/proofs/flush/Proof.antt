@@ -15,5 +15,11 @@ write-all-requires c κs = search needs
 returns : tie.Need-returns
 returns c = search needs
 
+write-all-requires-2 : tie.Need-write-all-requires-2
+write-all-requires-2 c κs = search needs
+
+returns-2 : tie.Need-returns-2
+returns-2 c = search needs
+
 pub flush-spec : {M : Type 1} → statement M
-flush-spec = tie.close (tie.spec slice-aggregate-write-all write-all-requires returns)
+flush-spec = tie.close (tie.spec slice-aggregate-write-all write-all-requires returns write-all-requires-2 returns-2)

@@ -1,5 +1,4 @@
--- `batch::put_word` meets its contract. The loop's invariant: no more bytes wait than the output has room for. Assumes
--- nothing.
+-- `batch::put_word` meets its contract. The loop's invariant: the place is in the word or at its end. Assumes nothing.
 use Prim.Native.Nat.{_-_, _≤_}
 use lib.ListN.{length}
 use borrow.Author.Needs.{needs}
@@ -7,7 +6,7 @@ use Rattle.batch.proofs.put_word.Statement.{statement}
 use Rattle.batch.proofs.put_word.Tie as tie
 
 abbrev Inv-loop : tie.InvT-loop
-Inv-loop out₀ n word m₀ i₀ out m i = (m ≤ 65536) × (i ≤ length word)
+Inv-loop out₀ n word m₀ i₀ out m i = i ≤ length word
 
 abbrev μ-loop : tie.MeasureT-loop
 μ-loop out₀ n word m₀ i₀ out m i = length word - i

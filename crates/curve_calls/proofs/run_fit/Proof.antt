@@ -1,4 +1,4 @@
--- `curve_calls::run_fit` meets its contract: the bytes that wait are still as many as the output has room for. Assumes nothing.
+-- `curve_calls::run_fit` meets its contract. Assumes nothing.
 use borrow.Author.Needs.{needs}
 use Rattle.curve_calls.proofs.run_fit.Statement.{statement}
 use Rattle.curve_calls.proofs.run_fit.Tie as tie

@@ -1,13 +1,12 @@
--- `curve_calls::run_lines` meets its contract. The loop's invariant: no more bytes wait than the output has room for. Each turn goes on
--- behind its place. Assumes nothing.
-use Prim.Native.Nat.{_-_, _≤_}
+-- `curve_calls::run_lines` meets its contract. Each turn goes on behind its place. Assumes nothing.
+use Prim.Native.Nat.{_-_}
 use lib.ListN.{length}
 use borrow.Author.Needs.{needs}
 use Rattle.curve_calls.proofs.run_lines.Statement.{statement}
 use Rattle.curve_calls.proofs.run_lines.Tie as tie
 
 abbrev Inv-loop : tie.InvT-loop
-Inv-loop text out₀ n₀ at₀ out n at = n ≤ 65536
+Inv-loop text out₀ n₀ at₀ out n at = Unit {0}
 
 abbrev μ-loop : tie.MeasureT-loop
 μ-loop text out₀ n₀ at₀ out n at = length text - at
@@ -22,7 +21,7 @@ next-line-requires : tie.Need-next-line-requires Inv-loop μ-loop
 next-line-requires c κs = search needs
 
 loop-less : tie.Need-loop-less Inv-loop μ-loop
-loop-less c = search needs
+loop-less c = let b = c .next-line .ensures (c .before .before .before .loop-test .taken) in search (needs, b .0)
 
 loop-again : tie.Need-loop-again Inv-loop μ-loop
 loop-again c = search needs

@@ -1,4 +1,4 @@
--- `curve_calls::printing::put_lent` meets its contract. The loop's invariant: no more bytes wait than the output has room for. Assumes
+-- `curve_calls::printing::put_lent` meets its contract. The loop's invariant: the place is among the numbers or at their end. Assumes
 -- nothing.
 use Prim.Native.Nat.{_-_, _≤_}
 use native.Mathlib.Omega.{arith}
@@ -8,7 +8,7 @@ use Rattle.curve_calls.proofs.printing.put_lent.Statement.{statement}
 use Rattle.curve_calls.proofs.printing.put_lent.Tie as tie
 
 abbrev Inv-loop : tie.InvT-loop
-Inv-loop out₀ n lent m₀ i₀ out m i = (m ≤ 65536) × (i ≤ length lent)
+Inv-loop out₀ n lent m₀ i₀ out m i = i ≤ length lent
 
 abbrev μ-loop : tie.MeasureT-loop
 μ-loop out₀ n lent m₀ i₀ out m i = length lent - i

@@ -1,13 +1,12 @@
--- `table_texts::printing::put_servers` meets its contract. The loop's invariant: no more bytes wait than the output has room for. Assumes
--- nothing.
-use Prim.Native.Nat.{_-_, _≤_}
+-- `table_texts::printing::put_servers` meets its contract. The loop needs no invariant. Assumes nothing.
+use Prim.Native.Nat.{_-_}
 use Rattle.table.proofs.Entries.{length-mapped}
 use borrow.Author.Needs.{needs}
 use Rattle.table_texts.proofs.printing.put_servers.Statement.{statement}
 use Rattle.table_texts.proofs.printing.put_servers.Tie as tie
 
 abbrev Inv-loop : tie.InvT-loop
-Inv-loop out₀ n table m₀ i₀ out m i = m ≤ 65536
+Inv-loop out₀ n table m₀ i₀ out m i = Unit {0}
 
 abbrev μ-loop : tie.MeasureT-loop
 μ-loop out₀ n table m₀ i₀ out m i = 16 - i
