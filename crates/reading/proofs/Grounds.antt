@@ -15,7 +15,7 @@ use Rattle.table.specs.declared.Kind.{Kind}
 use Rattle.table.specs.declared.Kind.the-variants.{Deferrable, Periodic}
 use Rattle.table.specs.declared.Span.{Span}
 use Rattle.table.specs.declared.Span.the-variants.{Ticks, Over}
-use Rattle.reading.specs.Fields.{fieldsOf, fieldAt, sameBytes, dash, deferrableWord, periodicWord, wordOf, isDigit, digitsFrom, startsWithZero, numberOf}
+use Rattle.reading.specs.Fields.{fieldsOf, fieldAt, sameBytes, dash, deferrableWord, periodicWord, wordOf, isDigit, digitsFrom, startsWithZero, fieldNumber}
 use Rattle.reading.specs.Lines.{field, ranged, counted, spanLine, kindOf, kindField, serverIs, serverLine, onceIs, onceLine, deadlineOf, everyIs, everyLine, byWord, lineOf}
 use Rattle.reading.specs.Reading.{refusal, accepted, withSpan, resolved, endedOf, afterLine, readLines}
 use Rattle.reading.specs.Pieces.{withLine, goesOn}
@@ -111,18 +111,18 @@ module _ (w : Word) (n servers tasks : ℕ) (line : List ℕ) where
   -- 5: the field at a place is refused
   pub record BadField (x : What) (place : ℕ) : Type 0 where
     pub counted : Counted
-    pub field : (numberOf (fieldAt line place) ≡ number.Bad x) ⊎ (kindOf (fieldAt line place) ≡ kind.Bad x)
+    pub field : (fieldNumber (fieldAt line place) ≡ number.Bad x) ⊎ (kindOf (fieldAt line place) ≡ kind.Bad x)
 
   -- 6: the number at a place is outside its range
   pub data Outside : ℕ → Type 0 where
-    span-out : {h : ℕ} → numberOf (fieldAt line 2) ≡ number.Value h → inTicks h ≡ false → Outside 2
-    capacity-out : {c t : ℕ} → numberOf (fieldAt line 3) ≡ number.Value c → numberOf (fieldAt line 4) ≡ number.Value t → (inTicks c && leb c t) ≡ false → Outside 3
-    server-period-out : {t : ℕ} → numberOf (fieldAt line 4) ≡ number.Value t → inTicks t ≡ false → Outside 4
-    server-out : {s : ℕ} → numberOf (fieldAt line 2) ≡ number.Value s → between 1 servers s ≡ false → Outside 2
-    work-out : {k : ℕ} → numberOf (fieldAt line 3) ≡ number.Value k → inTicks k ≡ false → Outside 3
-    instant-out : {i : ℕ} → numberOf (fieldAt line 4) ≡ number.Value i → leb i 16000 ≡ false → Outside 4
-    once-deadline-out : {d : ℕ} → numberOf (fieldAt line 5) ≡ number.Value d → inTicks d ≡ false → Outside 5
-    period-out : {p : ℕ} → numberOf (fieldAt line 5) ≡ number.Value p → inTicks p ≡ false → Outside 5
+    span-out : {h : ℕ} → fieldNumber (fieldAt line 2) ≡ number.Value h → inTicks h ≡ false → Outside 2
+    capacity-out : {c t : ℕ} → fieldNumber (fieldAt line 3) ≡ number.Value c → fieldNumber (fieldAt line 4) ≡ number.Value t → (inTicks c && leb c t) ≡ false → Outside 3
+    server-period-out : {t : ℕ} → fieldNumber (fieldAt line 4) ≡ number.Value t → inTicks t ≡ false → Outside 4
+    server-out : {s : ℕ} → fieldNumber (fieldAt line 2) ≡ number.Value s → between 1 servers s ≡ false → Outside 2
+    work-out : {k : ℕ} → fieldNumber (fieldAt line 3) ≡ number.Value k → inTicks k ≡ false → Outside 3
+    instant-out : {i : ℕ} → fieldNumber (fieldAt line 4) ≡ number.Value i → leb i 16000 ≡ false → Outside 4
+    once-deadline-out : {d : ℕ} → fieldNumber (fieldAt line 5) ≡ number.Value d → inTicks d ≡ false → Outside 5
+    period-out : {p : ℕ} → fieldNumber (fieldAt line 5) ≡ number.Value p → inTicks p ≡ false → Outside 5
     deadline-out : (p : ℕ) {d : ℕ} → deadlineOf (fieldAt line 6) p ≡ number.Value d → inTicks d ≡ false → Outside 6
 
   abbrev pub GroundOf : What → ℕ → Type 0
@@ -168,7 +168,7 @@ module _ (w : Word) (n servers tasks : ℕ) (line : List ℕ) where
   NumberOf (number.Value v) = Unit {0}
   NumberOf (number.Bad x) = OfField x
 
-  number-of : (f : List ℕ) → NumberOf (numberOf f)
+  number-of : (f : List ℕ) → NumberOf (fieldNumber f)
   number-of f = go (eqb (length f) 0) (sameBytes f dash) (all isDigit f) (startsWithZero f) (leb (length f) 5)
     where
       go : (a b c d e : Bool)
@@ -193,13 +193,13 @@ module _ (w : Word) (n servers tasks : ℕ) (line : List ℕ) where
       go false false true = tt
       go false false false = unknown-kind
 
-  number-ground : Counted → (place : ℕ) (x : Number) → numberOf (fieldAt line place) ≡ x → NumberOf x → (next : ℕ → Line)
-      → ((v : ℕ) → numberOf (fieldAt line place) ≡ number.Value v → Grounded (next v)) → Grounded (field x place next)
+  number-ground : Counted → (place : ℕ) (x : Number) → fieldNumber (fieldAt line place) ≡ x → NumberOf x → (next : ℕ → Line)
+      → ((v : ℕ) → fieldNumber (fieldAt line place) ≡ number.Value v → Grounded (next v)) → Grounded (field x place next)
   number-ground c place (number.Value v) e o next h = h v e
   number-ground c place (number.Bad x) e o next h = field-ground place o (record { counted = c; field = inl e })
 
-  at-place : Counted → (place : ℕ) (next : ℕ → Line) → ((v : ℕ) → numberOf (fieldAt line place) ≡ number.Value v → Grounded (next v)) → Grounded (field (numberOf (fieldAt line place)) place next)
-  at-place c place next h = number-ground c place (numberOf (fieldAt line place)) refl (number-of (fieldAt line place)) next h
+  at-place : Counted → (place : ℕ) (next : ℕ → Line) → ((v : ℕ) → fieldNumber (fieldAt line place) ≡ number.Value v → Grounded (next v)) → Grounded (field (fieldNumber (fieldAt line place)) place next)
+  at-place c place next h = number-ground c place (fieldNumber (fieldAt line place)) refl (number-of (fieldAt line place)) next h
 
   kind-ground : Counted → (x : KindField) → kindOf (fieldAt line 2) ≡ x → KindsOf x → (next : Kind → Line) → ((k : Kind) → Grounded (next k)) → Grounded (kindField x 2 next)
   kind-ground c (kind.Is k) e o next h = h k
@@ -210,8 +210,8 @@ module _ (w : Word) (n servers tasks : ℕ) (line : List ℕ) where
       → Grounded (field (deadlineOf (fieldAt line place) p) place next)
   or-dash c place p next h = go (sameBytes (fieldAt line place) dash) h
     where
-      go : (b : Bool) → ((v : ℕ) → pick b (number.Value p) (numberOf (fieldAt line place)) ≡ number.Value v → Grounded (next v))
-          → Grounded (field (pick b (number.Value p) (numberOf (fieldAt line place))) place next)
+      go : (b : Bool) → ((v : ℕ) → pick b (number.Value p) (fieldNumber (fieldAt line place)) ≡ number.Value v → Grounded (next v))
+          → Grounded (field (pick b (number.Value p) (fieldNumber (fieldAt line place))) place next)
       go true g = g p refl
       go false g = at-place c place next g
 
@@ -239,13 +239,13 @@ module _ (w : Word) (n servers tasks : ℕ) (line : List ℕ) where
 module _ (n servers tasks : ℕ) (line : List ℕ) where
   -- the number at a place, as it was read
   abbrev At : ℕ → ℕ → Type 0
-  At place v = numberOf (fieldAt line place) ≡ number.Value v
+  At place v = fieldNumber (fieldAt line place) ≡ number.Value v
 
   span-ground : Counted word.Span n servers tasks line → Grounded word.Span n servers tasks line
-      (pick (sameBytes (fieldAt line 2) dash) (SpanIs 0) (field (numberOf (fieldAt line 2)) 2 (λ h. ranged (inTicks h) 2 (SpanIs h))))
+      (pick (sameBytes (fieldAt line 2) dash) (SpanIs 0) (field (fieldNumber (fieldAt line 2)) 2 (λ h. ranged (inTicks h) 2 (SpanIs h))))
   span-ground c = go (sameBytes (fieldAt line 2) dash)
     where
-      go : (b : Bool) → Grounded word.Span n servers tasks line (pick b (SpanIs 0) (field (numberOf (fieldAt line 2)) 2 (λ h. ranged (inTicks h) 2 (SpanIs h))))
+      go : (b : Bool) → Grounded word.Span n servers tasks line (pick b (SpanIs 0) (field (fieldNumber (fieldAt line 2)) 2 (λ h. ranged (inTicks h) 2 (SpanIs h))))
       go true = tt
       go false = at-place word.Span n servers tasks line c 2 _ (λ h e. range-ground word.Span n servers tasks line c (inTicks h) 2 (SpanIs h) (span-out e) tt)
 

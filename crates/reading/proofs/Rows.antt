@@ -17,7 +17,7 @@ use Rattle.table.specs.declared.Server.{Server}
 use Rattle.table.specs.declared.Task.{Task}
 use Rattle.table.specs.declared.Table.{Table}
 use Rattle.table.specs.declared.Kind.{Kind}
-use Rattle.reading.specs.Fields.{split, allButLast, linesOf, fieldsOf, fieldAt, sameBytes, dash, wordOf, numberOf}
+use Rattle.reading.specs.Fields.{split, allButLast, linesOf, fieldsOf, fieldAt, sameBytes, dash, wordOf, fieldNumber}
 use Rattle.reading.specs.Lines.{field, ranged, counted, spanLine, kindOf, kindField, serverIs, serverLine, onceIs, onceLine, deadlineOf, everyIs, everyLine, placed, fewer, byWord, lineOf}
 use Rattle.reading.specs.Reading.{noTable, withSpan, withServer, withTask, endedOf, afterLine, readLines}
 use Rattle.reading.specs.declared.Reading.{Reading}
@@ -69,18 +69,18 @@ module _ (servers tasks : ℕ) where
   span-says line =
       pick-says (eqb (length (fieldsOf line)) 2) 0 _ _ (λ e. go (sameBytes (fieldAt line 2) dash))
     where
-      go : (b : Bool) → Says servers tasks (pick b (SpanIs 0) (field (numberOf (fieldAt line 2)) 2 (λ h. ranged (inTicks h) 2 (SpanIs h))))
+      go : (b : Bool) → Says servers tasks (pick b (SpanIs 0) (field (fieldNumber (fieldAt line 2)) 2 (λ h. ranged (inTicks h) 2 (SpanIs h))))
       go true = omega arith
       go false =
-          field-says (numberOf (fieldAt line 2)) 2 _
+          field-says (fieldNumber (fieldAt line 2)) 2 _
           (λ h. pick-says (inTicks h) 2 _ _ (λ e. leb-true h 16000 (and-right (leb 1 h) (leb h 16000) e)))
 
   server-says : (line : List ℕ) → servers < 16 → tasks ≡ 0 → Says servers tasks (serverLine line)
   server-says line r z =
       pick-says (eqb (length (fieldsOf line)) 4) 0 _ _ (λ e.
       kind-says (kindOf (fieldAt line 2)) 2 _ (λ k.
-      field-says (numberOf (fieldAt line 3)) 3 _ (λ c.
-      field-says (numberOf (fieldAt line 4)) 4 _ (λ t.
+      field-says (fieldNumber (fieldAt line 3)) 3 _ (λ c.
+      field-says (fieldNumber (fieldAt line 4)) 4 _ (λ t.
       pick-says (inTicks c && leb c t) 3 _ _ (λ p.
       pick-says (inTicks t) 4 _ _ (λ q. record {
         room = r;
@@ -91,10 +91,10 @@ module _ (servers tasks : ℕ) where
   once-says : (line : List ℕ) → tasks < 64 → Says servers tasks (onceLine servers line)
   once-says line r =
       pick-says (eqb (length (fieldsOf line)) 5) 0 _ _ (λ e.
-      field-says (numberOf (fieldAt line 2)) 2 _ (λ s.
-      field-says (numberOf (fieldAt line 3)) 3 _ (λ w.
-      field-says (numberOf (fieldAt line 4)) 4 _ (λ i.
-      field-says (numberOf (fieldAt line 5)) 5 _ (λ d.
+      field-says (fieldNumber (fieldAt line 2)) 2 _ (λ s.
+      field-says (fieldNumber (fieldAt line 3)) 3 _ (λ w.
+      field-says (fieldNumber (fieldAt line 4)) 4 _ (λ i.
+      field-says (fieldNumber (fieldAt line 5)) 5 _ (λ d.
       pick-says (between 1 servers s) 2 _ _ (λ p.
       pick-says (inTicks w) 3 _ _ (λ q.
       pick-says (leb i 16000) 4 _ _ (λ u.
@@ -103,10 +103,10 @@ module _ (servers tasks : ℕ) where
   every-says : (line : List ℕ) → tasks < 64 → Says servers tasks (everyLine servers line)
   every-says line r =
       pick-says (eqb (length (fieldsOf line)) 6) 0 _ _ (λ e.
-      field-says (numberOf (fieldAt line 2)) 2 _ (λ s.
-      field-says (numberOf (fieldAt line 3)) 3 _ (λ w.
-      field-says (numberOf (fieldAt line 4)) 4 _ (λ o.
-      field-says (numberOf (fieldAt line 5)) 5 _ (λ p.
+      field-says (fieldNumber (fieldAt line 2)) 2 _ (λ s.
+      field-says (fieldNumber (fieldAt line 3)) 3 _ (λ w.
+      field-says (fieldNumber (fieldAt line 4)) 4 _ (λ o.
+      field-says (fieldNumber (fieldAt line 5)) 5 _ (λ p.
       field-says (deadlineOf (fieldAt line 6) p) 6 _ (λ d.
       pick-says (between 1 servers s) 2 _ _ (λ a.
       pick-says (inTicks w) 3 _ _ (λ b.

@@ -90,8 +90,8 @@ digitsFrom n (b ∷ r) = digitsFrom (10 * n + (b - 48)) r
 abbrev pub startsWithZero : List ℕ → Bool
 startsWithZero f = eqb (getD f 0 0) 48 && ltb 1 (length f)
 
-abbrev pub numberOf : List ℕ → Number
-numberOf f =
+abbrev pub fieldNumber : List ℕ → Number
+fieldNumber f =
     pick (eqb (length f) 0) (Bad Empty)
     (pick (sameBytes f dash) (Bad Dash)
     (pick (all isDigit f)

@@ -10,7 +10,7 @@ use Rattle.table.specs.declared.Kind.{Kind}
 use Rattle.table.specs.declared.Kind.the-variants.{Deferrable, Periodic}
 use Rattle.table.specs.declared.Release.{Release}
 use Rattle.table.specs.declared.Release.the-variants as release
-use Rattle.reading.specs.Fields.{fieldsOf, fieldAt, sameBytes, deferrableWord, periodicWord, dash, wordOf, numberOf}
+use Rattle.reading.specs.Fields.{fieldsOf, fieldAt, sameBytes, deferrableWord, periodicWord, dash, wordOf, fieldNumber}
 use Rattle.reading.specs.declared.What.{What}
 use Rattle.reading.specs.declared.What.the-variants.{Misplaced, TooMany, FieldCount, Empty, UnknownKind, OutOfRange}
 use Rattle.reading.specs.declared.Word.{Word}
@@ -39,7 +39,7 @@ counted line n next = pick (eqb (length (fieldsOf line)) n) next (Wrong FieldCou
 abbrev pub spanLine : List ℕ → Line
 spanLine line =
     counted line 2
-    (pick (sameBytes (fieldAt line 2) dash) (SpanIs 0) (field (numberOf (fieldAt line 2)) 2 (λ h. ranged (inTicks h) 2 (SpanIs h))))
+    (pick (sameBytes (fieldAt line 2) dash) (SpanIs 0) (field (fieldNumber (fieldAt line 2)) 2 (λ h. ranged (inTicks h) 2 (SpanIs h))))
 
 -- "`deferrable` or `periodic`"
 abbrev pub kindOf : List ℕ → KindField
@@ -59,7 +59,7 @@ abbrev pub serverLine : List ℕ → Line
 serverLine line =
     counted line 4
     (kindField (kindOf (fieldAt line 2)) 2
-    (λ k. field (numberOf (fieldAt line 3)) 3 (λ c. field (numberOf (fieldAt line 4)) 4 (λ t. serverIs k c t))))
+    (λ k. field (fieldNumber (fieldAt line 3)) 3 (λ c. field (fieldNumber (fieldAt line 4)) 4 (λ t. serverIs k c t))))
 
 -- `once`: "server, work, instant, deadline"; "server 1 to the number of servers"
 abbrev pub onceIs : ℕ → ℕ → ℕ → ℕ → ℕ → Line
@@ -71,13 +71,13 @@ onceIs servers s w i d =
 abbrev pub onceLine : ℕ → List ℕ → Line
 onceLine servers line =
     counted line 5
-    (field (numberOf (fieldAt line 2)) 2
-    (λ s. field (numberOf (fieldAt line 3)) 3
-    (λ w. field (numberOf (fieldAt line 4)) 4 (λ i. field (numberOf (fieldAt line 5)) 5 (λ d. onceIs servers s w i d)))))
+    (field (fieldNumber (fieldAt line 2)) 2
+    (λ s. field (fieldNumber (fieldAt line 3)) 3
+    (λ w. field (fieldNumber (fieldAt line 4)) 4 (λ i. field (fieldNumber (fieldAt line 5)) 5 (λ d. onceIs servers s w i d)))))
 
 -- "`-` in an `every` line means that the deadline is the period"
 abbrev pub deadlineOf : List ℕ → ℕ → Number
-deadlineOf f period = pick (sameBytes f dash) (number.Value period) (numberOf f)
+deadlineOf f period = pick (sameBytes f dash) (number.Value period) (fieldNumber f)
 
 -- `every`: "server, work, offset, period, deadline or `-`"
 abbrev pub everyIs : ℕ → ℕ → ℕ → ℕ → ℕ → ℕ → Line
@@ -90,10 +90,10 @@ everyIs servers s w o p d =
 abbrev pub everyLine : ℕ → List ℕ → Line
 everyLine servers line =
     counted line 6
-    (field (numberOf (fieldAt line 2)) 2
-    (λ s. field (numberOf (fieldAt line 3)) 3
-    (λ w. field (numberOf (fieldAt line 4)) 4
-    (λ o. field (numberOf (fieldAt line 5)) 5 (λ p. field (deadlineOf (fieldAt line 6) p) 6 (λ d. everyIs servers s w o p d))))))
+    (field (fieldNumber (fieldAt line 2)) 2
+    (λ s. field (fieldNumber (fieldAt line 3)) 3
+    (λ w. field (fieldNumber (fieldAt line 4)) 4
+    (λ o. field (fieldNumber (fieldAt line 5)) 5 (λ p. field (deadlineOf (fieldAt line 6) p) 6 (λ d. everyIs servers s w o p d))))))
 
 -- 3: "first field unknown or in the wrong place", "First `span`, then servers, then tasks"
 abbrev pub placed : Bool → Line → Line
@@ -103,7 +103,7 @@ placed ok next = pick ok next (Wrong Misplaced 0)
 abbrev pub fewer : Bool → Line → Line
 fewer ok next = pick ok next (Wrong TooMany 0)
 
--- line `number`, behind so many servers and tasks
+-- line n, behind so many servers and tasks
 abbrev pub byWord : Word → ℕ → ℕ → ℕ → List ℕ → Line
 byWord word.Span n servers tasks line = placed (eqb n 1) (spanLine line)
 byWord word.Server n servers tasks line = placed (ltb 1 n && eqb tasks 0) (fewer (ltb servers 16) (serverLine line))

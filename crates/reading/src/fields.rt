@@ -8,7 +8,7 @@ ghost use mathlib.Core.List.{List, []};
 ghost use Prim.Native.Nat.{ℕ, _≤_, _<_};
 ghost use lib.ListN.{length, getD};
 ghost use Rattle.table.specs.Rules.{all};
-ghost use Rattle.reading.specs.Fields.{split, sameBytes, wordOf, isDigit, startsWithZero, digitsFrom, numberOf};
+ghost use Rattle.reading.specs.Fields.{split, sameBytes, wordOf, isDigit, startsWithZero, digitsFrom, fieldNumber};
 ghost use Rattle.reading.specs.Pieces.{firstLength};
 
 // Whether two slices hold the same bytes.
@@ -143,7 +143,7 @@ fn wide(byte: u8) -> u32
 
 // A field that is to be a number.
 pub fn number(field: &[u8]) -> Number
-    ensures { λ r. ⌜ r ≡ numberOf (now (field .entry)) ⌝ }
+    ensures { λ r. ⌜ r ≡ fieldNumber (now (field .entry)) ⌝ }
 {
     if field.len() == 0 {
         return Number::Bad(What::Empty);

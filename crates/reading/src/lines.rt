@@ -19,7 +19,7 @@ ghost use mathlib.Core.List.{[]};
 ghost use Prim.Native.Nat.{_≤_, _<_};
 ghost use lib.ListN.{length, getD};
 ghost use Rattle.table.specs.Rules.{between};
-ghost use Rattle.reading.specs.Fields.{split, numberOf};
+ghost use Rattle.reading.specs.Fields.{split, fieldNumber};
 ghost use Rattle.reading.specs.Pieces.{wrongOf, wrongKindOf};
 ghost use Rattle.reading.specs.Lines.{kindOf, deadlineOf, serverIs, onceIs, everyIs, spanLine, serverLine, onceLine, everyLine, lineOf};
 
@@ -46,7 +46,7 @@ fn wrong_kind(kind: KindField, place: u32) -> Line
 // The number in the field behind `skip` others.
 fn number_at(line: &[u8], skip: usize) -> Number
     requires { ⌜ skip < length (split 9 (now line)) ⌝ }
-    ensures { λ r. ⌜ r ≡ numberOf (getD (split 9 (now (line .entry))) skip []) ⌝ }
+    ensures { λ r. ⌜ r ≡ fieldNumber (getD (split 9 (now (line .entry))) skip []) ⌝ }
 {
     number(field(line, skip))
 }

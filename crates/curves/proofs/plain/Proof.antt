@@ -4,7 +4,7 @@ use mathlib.Core.Path.{_≡_, refl, sym, _∙_}
 use native.Mathlib.Omega.{arith}
 use borrow.Author.Needs.{needs}
 use borrow.Author.Tests.{lt-leb, le-leb, lt-ltb, le-ltb}
-use lib.ListN.{length, drop, drop-of-length-le}
+use lib.ListN.{length, drop, getD, drop-of-length-le}
 use Rattle.windows.specs.Windows.{plainFrom, isPlain}
 use Rattle.curves.proofs.Turns.{drop-pair, drop-odd}
 use Rattle.curves.proofs.plain.Statement.{statement}
@@ -50,13 +50,17 @@ returns-2 c =
 returns-3 : tie.Need-returns-3 Inv-loop μ-loop
 unfolding plainFrom
 returns-3 c =
-    rw (drop-pair _ _ (c .before .before .before .before .if1 .left), le-leb _ _ (c .before .if2 .left), le-ltb _ _ (c .if3 .taken))
+    let l = c .before .before .before .before .before .before .before .args .curve .now in
+    let i = c .before .before .before .before .before .before .loop .i in
+    rw (drop-pair _ _ (c .before .before .before .before .if1 .left), le-leb _ _ (c .before .if2 .left), le-ltb (getD l i 0) (getD l (i + 1) 0) (omega (arith, c .if3 .taken)))
     at (c .before .before .before .before .before .before .loop .inv .1)
 
 returns-4 : tie.Need-returns-4 Inv-loop μ-loop
 unfolding plainFrom
 returns-4 c =
-    rw (drop-pair _ _ (c .before .before .before .before .before .if1 .left), le-leb _ _ (c .before .before .if2 .left), lt-ltb _ _ (c .before .if3 .left), lt-leb _ _ (c .if4 .taken))
+    let l = c .before .before .before .before .before .before .before .before .args .curve .now in
+    let i = c .before .before .before .before .before .before .before .loop .i in
+    rw (drop-pair _ _ (c .before .before .before .before .before .if1 .left), le-leb _ _ (c .before .before .if2 .left), lt-ltb _ _ (c .before .if3 .left), lt-leb (getD l (i + 1) 0) 1000000 (omega (arith, c .if4 .taken)))
     at (c .before .before .before .before .before .before .before .loop .inv .1)
 
 add-low : tie.Need-add-low Inv-loop μ-loop

@@ -4,7 +4,7 @@ use mathlib.Core.Path.{_≡_, refl, sym, ap, _∙_}
 use mathlib.Core.List.{List}
 use mathlib.Core.Bool.{Bool, true, false}
 use Rattle.windows.specs.Windows.{pick}
-use Rattle.reading.specs.Fields.{sameBytes, dash, numberOf}
+use Rattle.reading.specs.Fields.{sameBytes, dash, fieldNumber}
 use Rattle.reading.specs.Lines.{deadlineOf}
 use Rattle.reading.specs.declared.Number.{Number}
 use Rattle.reading.specs.declared.Number.the-variants.{Value}
@@ -13,8 +13,8 @@ use Rattle.reading.proofs.lines.deadline.Statement.{statement}
 use Rattle.reading.proofs.lines.deadline.Tie as tie
 
 -- what is not `-` is read as a number
-dash-none : (f : List ℕ) (period : ℕ) → sameBytes f dash ≡ false → deadlineOf f period ≡ numberOf f
-dash-none f period e = ap (λ (b : Bool). pick b (Value period) (numberOf f)) e
+dash-none : (f : List ℕ) (period : ℕ) → sameBytes f dash ≡ false → deadlineOf f period ≡ fieldNumber f
+dash-none f period e = ap (λ (b : Bool). pick b (Value period) (fieldNumber f)) e
 
 slice-aggregate-same : tie.Need-slice-aggregate-same
 slice-aggregate-same c = search needs
