@@ -1,0 +1,9 @@
+pub mod Places
+pub mod States
+pub mod Obeyed
+pub mod Noting
+pub mod OneTick
+pub mod Stepping
+pub mod WholeRun
+pub mod Examples
+pub mod Grounds
