@@ -1,9 +1,14 @@
 // What programs share that answer standard input line by line: the bytes that wait to be written, and where lines start and end.
 // `n` bytes wait at the front of `out` until it is full, and are then written to standard output at once. Each function that puts answers
 // how many bytes wait after it.
+pub mod decoding;
+
 ghost use Prim.Native.Nat.{_≤_, _<_};
 ghost use lib.ListN.{length};
 ghost use Rattle.io.specs.Counts.{Counts};
+
+// How many bytes of standard input are read.
+pub const INPUT: usize = 1_048_576;
 
 // Writes the bytes that wait.
 pub fn flush(out: &[u8; 65536], n: usize) {
@@ -37,12 +42,17 @@ pub fn put_word(out: &mut [u8; 65536], n: usize, word: &[u8]) -> usize {
     m
 }
 
+// Puts a number in decimal.
+pub fn put_decimal(out: &mut [u8; 65536], n: usize, value: u64) -> usize {
+    let mut digits = [0u8; 20];
+    let k = io::decimal(value, &mut digits);
+    put_word(out, n, &digits[..k])
+}
+
 // Puts a space and a number in decimal.
 pub fn put_number(out: &mut [u8; 65536], n: usize, value: u64) -> usize {
     let m = put_byte(out, n, b' ');
-    let mut digits = [0u8; 20];
-    let k = io::decimal(value, &mut digits);
-    put_word(out, m, &digits[..k])
+    put_decimal(out, m, value)
 }
 
 // Puts the answer to a line that asks for nothing.
@@ -84,4 +94,16 @@ pub fn whole_lines(text: &[u8]) -> usize
         n -= 1;
     }
     0
+}
+
+// Reads standard input to the front of an array, and answers how many bytes are to be answered: all, or the whole lines where the array is
+// full and there may be more.
+pub fn read_lines(room: &mut [u8; INPUT]) -> usize
+    ensures { λ r. ⌜ Counts r (now (room .exit)) ⌝ }
+{
+    let n = io::read_full(libc::STDIN_FILENO, room);
+    if n < INPUT {
+        return n;
+    }
+    whole_lines(room)
 }

@@ -8,11 +8,12 @@
 mod printing;
 mod reading;
 
+use batch::INPUT;
 use batch::ends;
 use batch::flush;
 use batch::next_line;
 use batch::put_bad;
-use batch::whole_lines;
+use batch::read_lines;
 use printing::put_fitted;
 use printing::put_provided;
 use printing::put_written;
@@ -20,9 +21,6 @@ use reading::lend_room;
 use reading::next_number;
 use reading::read_curve;
 use reading::read_number;
-
-// How many bytes of standard input are read.
-const TEXT: usize = 1_048_576;
 
 // The most numbers that a curve or a lent buffer may have.
 const MOST: usize = 4096;
@@ -160,25 +158,15 @@ fn run_lines(text: &[u8]) {
     flush(&out, n);
 }
 
-// Runs the calls of a text that is not all of the input: those whose lines it has whole.
-fn run_whole_lines(text: &[u8]) {
-    let n = whole_lines(text);
-    run_lines(&text[..n]);
-}
-
 // Reads standard input and runs its calls.
-fn run_input(text: &mut [u8; TEXT]) {
-    let n = io::read_full(libc::STDIN_FILENO, text);
-    let input: &[u8] = text;
-    if n < TEXT {
-        run_lines(&input[..n]);
-    } else {
-        run_whole_lines(input);
-    }
+fn run_input(room: &mut [u8; INPUT]) {
+    let n = read_lines(room);
+    let text: &[u8] = room;
+    run_lines(&text[..n]);
 }
 
 // Lends the array for standard input.
 fn main() {
-    let mut text = [0u8; TEXT];
-    run_input(&mut text);
+    let mut room = [0u8; INPUT];
+    run_input(&mut room);
 }

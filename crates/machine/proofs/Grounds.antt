@@ -11,9 +11,8 @@ use Rattle.table.specs.Rules.{obeys}
 use Rattle.table.specs.declared.Table.{Table}
 use Rattle.machine.specs.declared.State.{State}
 use Rattle.machine.specs.declared.Stepped.{Stepped}
-use Rattle.machine.specs.Machine.{firstOf, overBudget, overWork, noneOf, accepts, taken, refusal, stepOf}
+use Rattle.machine.specs.Machine.{serverAt, firstOf, overBudget, overWork, noneOf, accepts, taken, refusal, stepOf}
 use Rattle.machine.proofs.Places.{First, first-is, none-at}
-use Rattle.machine.proofs.Obeyed.{serverAt}
 use Rattle.machine.proofs.Stepping.{accepted-rules, accepted-tick, accepted-budgets, accepted-work}
 
 -- 13: "table breaks the rules above, or tick is H or more, or a budget above its C, or waiting work above 300,000,000"

@@ -15,15 +15,8 @@ use Rattle.table.specs.declared.Server.{Server}
 use Rattle.table.specs.declared.Task.{Task}
 use Rattle.table.specs.declared.Table.{Table}
 use Rattle.table.proofs.Entries.{all-at}
-use Rattle.machine.specs.Machine.{releasedAt, gains}
+use Rattle.machine.specs.Machine.{serverAt, taskAt, releasedAt, gains}
 use Rattle.machine.specs.Parts.{Obeyed}
-
--- the entries at a place
-abbrev pub serverAt : Table → ℕ → Server
-serverAt table i = getD (table .servers) i noServer
-
-abbrev pub taskAt : Table → ℕ → Task
-taskAt table j = getD (table .tasks) j noTask
 
 -- ---- the tests of the rules
 

@@ -16,11 +16,10 @@ use Rattle.table.specs.declared.Kind.the-variants.{Deferrable}
 use Rattle.table.specs.declared.Server.{Server}
 use Rattle.table.specs.declared.Table.{Table}
 use Rattle.machine.specs.declared.State.{State}
-use Rattle.machine.specs.Machine.{along, refilled, gains, gained, waits, firstTask, isPeriodic, qualifies, holderOf, runnerOf, oneLess}
+use Rattle.machine.specs.Machine.{serverAt, taskAt, along, refilled, gains, gained, waits, firstTask, isPeriodic, qualifies, holderOf, runnerOf, oneLess}
 use Rattle.machine.specs.Machine.{ready, holder, runner, next, overBudget, noneOf, accepts}
 use Rattle.machine.proofs.Places.{First, first-is, none-at, none-of, along-length, along-at, along-beyond, less-length, less-at}
 use Rattle.machine.specs.Parts.{Obeyed}
-use Rattle.machine.proofs.Obeyed.{serverAt, taskAt}
 
 -- a state that has an entry for each server and task of the table
 pub record Full (table : Table) (s : State) : Type 0 where

@@ -12,10 +12,10 @@ use Rattle.table.specs.Rules.{obeys}
 use Rattle.table.specs.declared.Table.{Table}
 use Rattle.machine.specs.declared.State.{State}
 use Rattle.machine.specs.declared.Stepped.{Stepped}
-use Rattle.machine.specs.Machine.{holderOf, runnerOf, spends, runs, ready, holder, runner, later, next, overBudget, overWork, noneOf, accepts, stepOf}
+use Rattle.machine.specs.Machine.{serverAt, holderOf, runnerOf, spends, runs, ready, holder, runner, later, next, overBudget, overWork, noneOf, accepts, stepOf}
 use Rattle.machine.specs.Parts.{Obeyed, Firsts, entryOf, Has}
 use Rattle.machine.proofs.Places.{none-at, none-of}
-use Rattle.machine.proofs.Obeyed.{serverAt, servers-most, tasks-most}
+use Rattle.machine.proofs.Obeyed.{servers-most, tasks-most}
 use Rattle.machine.proofs.OneTick.{Full, next-budget, refilled-most, holder-server, holder-budget, runner-task, runner-work}
 
 -- ---- what a step that is not refused shows

@@ -14,11 +14,11 @@ use Rattle.windows.proofs.Capacity.{so-far-first, so-far-next}
 use Rattle.table.specs.declared.Kind.the-variants.{Deferrable}
 use Rattle.table.specs.declared.Server.{Server}
 use Rattle.table.specs.declared.Table.{Table}
-use Rattle.machine.specs.Machine.{refilled, gains, ready, holder, runner, next, overBudget, overWork, noneOf, accepts, stepOf}
+use Rattle.machine.specs.Machine.{serverAt, taskAt, refilled, gains, ready, holder, runner, next, overBudget, overWork, noneOf, accepts, stepOf}
 use Rattle.machine.specs.Run.{stateBefore, holderAt, runnerAt, holds, runsIn}
 use Rattle.machine.proofs.Places.{none-of}
 use Rattle.machine.specs.Parts.{Obeyed}
-use Rattle.machine.proofs.Obeyed.{serverAt, taskAt, servers-most, tasks-most, span-most, server-period, task-work, gains-most}
+use Rattle.machine.proofs.Obeyed.{servers-most, tasks-most, span-most, server-period, task-work, gains-most}
 use Rattle.machine.proofs.OneTick.{Full, ready-budget, ready-waiting, next-budget, next-waiting, next-full}
 use Rattle.machine.proofs.OneTick.{holder-budget, deferrable-runs, runner-server, runner-work}
 

@@ -16,6 +16,13 @@ use Rattle.table.specs.declared.Table.{Table}
 use Rattle.machine.specs.declared.State.{State}
 use Rattle.machine.specs.declared.Stepped.{Stepped}
 
+-- the entries at a place
+abbrev pub serverAt : Table → ℕ → Server
+serverAt table i = getD (table .servers) i noServer
+
+abbrev pub taskAt : Table → ℕ → Task
+taskAt table j = getD (table .tasks) j noTask
+
 -- what stands beside each entry is made anew from both; "those of the state pass through" beyond the last entry
 unfoldable pub along : {A : Type 0} → (A → ℕ → ℕ) → List A → List ℕ → List ℕ
 along f [] l = l
@@ -55,7 +62,7 @@ firstOf p (suc k) i = pick (p i) (suc i) (firstOf p k (suc i))
 
 -- the task at place j is one of the server and has waiting work
 abbrev pub waits : Table → State → ℕ → ℕ → Bool
-waits table s server j = eqb (getD (table .tasks) j noTask .server) server && ltb 0 (getD (s .waiting) j 0)
+waits table s server j = eqb (taskAt table j .server) server && ltb 0 (getD (s .waiting) j 0)
 
 -- a server's "first task with waiting work"
 abbrev pub firstTask : Table → State → ℕ → ℕ
@@ -70,7 +77,7 @@ abbrev pub mayHold : ℕ → Kind → ℕ → Bool
 mayHold budget kind first = ltb 0 budget && (isPeriodic kind || ltb 0 first)
 
 abbrev pub qualifies : Table → State → ℕ → Bool
-qualifies table s i = mayHold (getD (s .budgets) i 0) (getD (table .servers) i noServer .kind) (firstTask table s (suc i))
+qualifies table s i = mayHold (getD (s .budgets) i 0) (serverAt table i .kind) (firstTask table s (suc i))
 
 -- "If no server qualifies, nobody holds it"
 abbrev pub holderOf : Table → State → ℕ
@@ -118,7 +125,7 @@ next table s = later (runs (runner table s) (spends (holder table s) (ready tabl
 
 -- "a budget above its C"
 abbrev pub overBudget : Table → State → ℕ → Bool
-overBudget table s i = ltb (getD (table .servers) i noServer .capacity) (getD (s .budgets) i 0)
+overBudget table s i = ltb (serverAt table i .capacity) (getD (s .budgets) i 0)
 
 -- "waiting work above 300,000,000"
 abbrev pub overWork : State → ℕ → Bool

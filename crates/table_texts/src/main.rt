@@ -2,21 +2,18 @@
 // lowercase hexadecimal digits for each byte; a line that starts with `#` is copied. The answer is `refused number line place`, or
 //     span h | server kind c t .. | once server work instant deadline | every server work offset period deadline ..
 // A line of any other form, or one with more than 5,000 bytes of text, is answered by `bad`.
-mod decoding;
 mod printing;
 
+use batch::INPUT;
+use batch::decoding::decode;
 use batch::flush;
 use batch::next_line;
 use batch::put_bad;
 use batch::put_word;
-use batch::whole_lines;
-use decoding::decode;
+use batch::read_lines;
 use printing::put_reading;
 ghost use Prim.Native.Nat.{_<_};
 ghost use lib.ListN.{length};
-
-// How many bytes of standard input are read.
-const INPUT: usize = 1_048_576;
 
 // The most bytes that a table's text may have here.
 const MOST: usize = 5000;
@@ -61,21 +58,11 @@ fn run_lines(input: &[u8]) {
     flush(&out, n);
 }
 
-// Answers the lines that an input has whole.
-fn run_whole_lines(input: &[u8]) {
-    let n = whole_lines(input);
-    run_lines(&input[..n]);
-}
-
 // Reads standard input and answers its lines.
 fn run_input(room: &mut [u8; INPUT]) {
-    let n = io::read_full(libc::STDIN_FILENO, room);
+    let n = read_lines(room);
     let input: &[u8] = room;
-    if n < INPUT {
-        run_lines(&input[..n]);
-    } else {
-        run_whole_lines(input);
-    }
+    run_lines(&input[..n]);
 }
 
 // Lends the array for standard input.

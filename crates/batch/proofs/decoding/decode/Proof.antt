@@ -1,4 +1,4 @@
--- `table_texts::decoding::decode` meets its contract. The loop's invariant: no more bytes than the array has room for, and the array keeps
+-- `batch::decoding::decode` meets its contract. The loop's invariant: no more bytes than the array has room for, and the array keeps
 -- its length. Assumes nothing.
 use Prim.Native.Nat.{_-_, _≤_}
 use mathlib.Core.Path.{_≡_, sym}
@@ -6,8 +6,8 @@ use native.Mathlib.Omega.{arith}
 use lib.ListN.{length}
 use lib.Seq.{length-take-le}
 use borrow.Author.Needs.{needs}
-use Rattle.table_texts.proofs.decoding.decode.Statement.{statement}
-use Rattle.table_texts.proofs.decoding.decode.Tie as tie
+use Rattle.batch.proofs.decoding.decode.Statement.{statement}
+use Rattle.batch.proofs.decoding.decode.Tie as tie
 
 abbrev Inv-loop : tie.InvT-loop
 Inv-loop line bytes₀ at₀ k₀ bytes at k = (k ≤ length bytes₀) × (length bytes ≡ length bytes₀)
