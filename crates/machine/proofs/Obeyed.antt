@@ -106,6 +106,9 @@ module _ (table : Table) (ok : Obeyed table) where
   pub task-work : (j : ℕ) → j < table .«tasks_n» → taskAt table j .work ≤ 16000
   task-work j h = between-high 1 16000 (taskAt table j .work) (and-left (inTicks (taskAt table j .work)) _ (task-rest j h))
 
+  pub task-some : (j : ℕ) → j < table .«tasks_n» → 1 ≤ taskAt table j .work
+  task-some j h = between-low 1 16000 (taskAt table j .work) (and-left (inTicks (taskAt table j .work)) _ (task-rest j h))
+
   pub task-release : (j : ℕ) → j < table .«tasks_n» → releaseObeys (taskAt table j .release) ≡ true
   task-release j h =
       let e = and-right (inTicks (taskAt table j .work)) _ (task-rest j h) in

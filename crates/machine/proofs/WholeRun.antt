@@ -24,17 +24,17 @@ use Rattle.machine.proofs.OneTick.{holder-budget, deferrable-runs, runn
 
 -- ---- the mark of a place: 1 where the number is its own
 
-abbrev mark : ℕ → ℕ → ℕ
+abbrev pub mark : ℕ → ℕ → ℕ
 mark n i = pick (eqb n (suc i)) 1 0
 
-is-marked : (n i : ℕ) → mark n i ≡ 1 → n ≡ suc i
+pub is-marked : (n i : ℕ) → mark n i ≡ 1 → n ≡ suc i
 is-marked n i e = go (eqb n (suc i)) refl e
   where
     go : (b : Bool) → eqb n (suc i) ≡ b → pick {A = ℕ} b 1 0 ≡ 1 → n ≡ suc i
     go true q d = eqb-true n (suc i) q
     go false q d = absurd (omega (arith, d))
 
-mark-most : (n i b : ℕ) → (n ≡ suc i → 0 < b) → mark n i ≤ b
+pub mark-most : (n i b : ℕ) → (n ≡ suc i → 0 < b) → mark n i ≤ b
 mark-most n i b h = go (eqb n (suc i)) refl
   where
     go : (c : Bool) → eqb n (suc i) ≡ c → pick c 1 0 ≤ b
@@ -96,12 +96,12 @@ module _ (table : Table) (ok : Obeyed table) where
     abbrev work : ℕ → ℕ
     work t = getD (stateBefore table t .waiting) j 0 + gains (taskAt table j) t
 
-    work-ready : (t : ℕ) → getD (ready table (stateBefore table t) .waiting) j 0 ≡ work t
+    pub work-ready : (t : ℕ) → getD (ready table (stateBefore table t) .waiting) j 0 ≡ work t
     work-ready t =
         ready-waiting table ok (stateBefore table t) (full-before t) j h
         ∙ ap (λ u. getD (stateBefore table t .waiting) j 0 + gains (taskAt table j) u) (tick-before table t)
 
-    waiting-next : (t : ℕ) → getD (stateBefore table (suc t) .waiting) j 0 ≡ work t - runsIn table j t
+    pub waiting-next : (t : ℕ) → getD (stateBefore table (suc t) .waiting) j 0 ≡ work t - runsIn table j t
     unfolding stateBefore
     waiting-next t =
         next-waiting table ok (stateBefore table t) (full-before t) j h
@@ -128,10 +128,10 @@ module _ (table : Table) (ok : Obeyed table) where
     server = serverAt table i
 
     -- the budget with which tick t is entered
-    abbrev budget : ℕ → ℕ
+    abbrev pub budget : ℕ → ℕ
     budget t = refilled t server (getD (stateBefore table t .budgets) i 0)
 
-    budget-ready : (t : ℕ) → getD (ready table (stateBefore table t) .budgets) i 0 ≡ budget t
+    pub budget-ready : (t : ℕ) → getD (ready table (stateBefore table t) .budgets) i 0 ≡ budget t
     budget-ready t =
         ready-budget table ok (stateBefore table t) (full-before t) i h
         ∙ ap (λ u. refilled u server (getD (stateBefore table t .budgets) i 0)) (tick-before table t)
@@ -142,7 +142,7 @@ module _ (table : Table) (ok : Obeyed table) where
         next-budget table ok (stateBefore table t) (full-before t) i h
         ∙ ap (λ u. refilled u server (getD (stateBefore table t .budgets) i 0) - holds table i t) (tick-before table t)
 
-    holds-most : (t : ℕ) → holds table i t ≤ budget t
+    pub holds-most : (t : ℕ) → holds table i t ≤ budget t
     unfolding holder
     holds-most t = mark-most (holderAt table t) i (budget t) (λ e. omega (arith, budget-ready t, holder-budget table (ready table (stateBefore table t)) i e))
 

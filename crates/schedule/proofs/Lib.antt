@@ -1,0 +1,11 @@
+pub mod Impulses
+pub mod Demands
+pub mod Capacities
+pub mod BelowEnd
+pub mod FromCurves
+pub mod Marks
+pub mod AsTasks
+pub mod AsServers
+pub mod AsMachine
+pub mod Agreement
+pub mod Examples

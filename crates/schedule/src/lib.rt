@@ -1,0 +1,1 @@
+// Who runs when, from curves: definitions and laws, no code.
