@@ -75,6 +75,9 @@ module _ (table : Table) (ok : Obeyed table) where
   pub tasks-most : table .«tasks_n» ≤ 64
   tasks-most = tasks-few table (ok .rules)
 
+  pub span-some : 1 ≤ table .span
+  span-some = between-low 1 16000 (table .span) (parts .span)
+
   pub span-most : table .span ≤ 16000
   span-most = between-high 1 16000 (table .span) (parts .span)
 
@@ -87,6 +90,13 @@ module _ (table : Table) (ok : Obeyed table) where
   server-period i h =
       let e = and-right (inTicks (serverAt table i .capacity)) _ (server-rule i h) in
       between-low 1 16000 (serverAt table i .period) (and-left (inTicks (serverAt table i .period)) _ e)
+
+  pub server-ticks : (i : ℕ) → i < table .«servers_n» → (serverAt table i .capacity ≤ 16000) × (serverAt table i .period ≤ 16000)
+  server-ticks i h =
+      let e = and-right (inTicks (serverAt table i .capacity)) _ (server-rule i h) in (
+        between-high 1 16000 (serverAt table i .capacity) (and-left (inTicks (serverAt table i .capacity)) _ (server-rule i h)),
+        between-high 1 16000 (serverAt table i .period) (and-left (inTicks (serverAt table i .period)) _ e),
+      )
 
   -- ---- each task
 

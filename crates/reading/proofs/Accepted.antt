@@ -100,6 +100,47 @@ read-obeys text = go (leb (length text) 4096) (endsWithFeed text)
 
 -- ---- 1: "text over 4,096 bytes"; 2: "text empty or last byte not a line feed"
 
+-- ---- the arrays of a table that is handed back have their lengths
+
+resolved-sized : (t : Table) (r : Span) → Sized t → Sized (resolved t r .table)
+resolved-sized t (Ticks h) z = record { of-servers = z .of-servers; of-tasks = z .of-tasks }
+resolved-sized t Over z = none-sized
+
+ended-sized : (t : Table) (n : ℕ) → Sized t → Sized (endedOf t n .table)
+ended-sized t n z = go (ltb 0 (t .«servers_n») && ltb 0 (t .«tasks_n»)) (eqb (t .span) 0)
+  where
+    x : Reading
+    x = resolved t (spanOf (periodsOf (serversOf t) (tasksOf t)))
+
+    go : (b e : Bool) → Sized (pick b (pick e x (accepted t)) (refusal what.Missing n 0) .table)
+    go true true = resolved-sized t (spanOf (periodsOf (serversOf t) (tasksOf t))) z
+    go true false = z
+    go false e = none-sized
+
+after-sized : (line : Line) (t : Table) (n : ℕ) (next : Table → Reading) → Sized (next (withLine t line) .table) → Sized (afterLine line t n next .table)
+after-sized (SpanIs h) t n next p = p
+after-sized (ServerIs x) t n next p = p
+after-sized (TaskIs k) t n next p = p
+after-sized (Wrong w place) t n next p = none-sized
+
+lines-sized : (ls : List (List ℕ)) (t : Table) (n : ℕ) → Sized t → Sized (readLines ls t n .table)
+unfolding readLines
+lines-sized [] t n z = ended-sized t n z
+lines-sized (l ∷ ls) t n z =
+    let line = lineOf n (t .«servers_n») (t .«tasks_n») l in
+    after-sized line t n (λ u. readLines ls u (n + 1)) (lines-sized ls (withLine t line) (n + 1) (sized-kept t line z))
+
+pub read-sized : (text : List ℕ) → Sized (readingOf text .table)
+read-sized text = go (leb (length text) 4096) (endsWithFeed text)
+  where
+    lines : Reading
+    lines = readLines (linesOf text) noTable 1
+
+    go : (a b : Bool) → Sized (pick a (pick b lines (refusal what.NotEnded 0 0)) (refusal what.TextTooLong 0 0) .table)
+    go true true = lines-sized (linesOf text) noTable 1 none-sized
+    go true false = none-sized
+    go false b = none-sized
+
 pub too-long : (text : List ℕ) → 4096 < length text → readingOf text ≡ refusal what.TextTooLong 0 0
 too-long text h = rw (lt-leb (length text) 4096 h)
 

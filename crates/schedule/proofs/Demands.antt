@@ -21,7 +21,7 @@ use Rattle.schedule.proofs.Impulses.{impulse, impulse-smooth, impulses,
 -- ---- what lies below H
 
 -- a window that is cut at H covers the same ticks below H
-inside-cut : (H s e t : ℕ) → t < H → Dec (e ≤ H) → Dec (s ≤ t) → inside s (min e H) t ≡ inside s e t
+pub inside-cut : (H s e t : ℕ) → t < H → Dec (e ≤ H) → Dec (s ≤ t) → inside s (min e H) t ≡ inside s e t
 inside-cut H s e t h (yes k) l = let q : min e H ≡ e = omega arith in ap (λ n. inside s n t) q
 inside-cut H s e t h (no k) (yes l) = omega (arith, inside-yes s (min e H) t l (omega arith), inside-yes s e t l (omega arith))
 inside-cut H s e t h (no k) (no l) = omega (arith, inside-early s (min e H) t (omega arith), inside-early s e t (omega arith))

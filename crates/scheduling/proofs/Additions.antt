@@ -1,0 +1,114 @@
+-- Two curves below H added up: the call is not refused, and what lies at H or later can be cut off. Assumes nothing.
+use Prim.Native.Nat.{ℕ, _+_, _≤_, _<_}
+use mathlib.Core.Path.{_≡_, refl, sym, ap, subst, _∙_}
+use mathlib.Core.List.{List, _++_}
+use mathlib.Core.Bool.{Bool, true, false, _&&_}
+use native.Mathlib.Omega.{arith}
+use lib.ListN.{length, take, drop, length-append, length-drop}
+use lib.Seq.{take-at, length-take-le}
+use lib.Dec.{leb}
+use borrow.Author.Tests.{le-leb}
+use Rattle.windows.specs.Windows.{isPlain, cover, endOf, addUp, done, always, _⊕_}
+use Rattle.windows.proofs.Ticks.{plain-apart, apart-plain, end-below}
+use Rattle.windows.proofs.Runs.{runs-end}
+use Rattle.windows.proofs.Adding.{add-apart, add-plain}
+use Rattle.curves.specs.Refusals.{Outcome, refused, answer, writtenOf, addOutcome, fitsIn, front, lent}
+use Rattle.curves.specs.Calls.{Adds}
+use Rattle.curves.specs.declared.Written.{Written}
+use Rattle.curves.specs.declared.Written.the-variants.{Count, Refused}
+use Rattle.curves.specs.declared.Ground.{Ground}
+use Rattle.table.specs.declared.Task.{Task}
+use Rattle.schedule.specs.Curves.{below, demandOf}
+use Rattle.schedule.proofs.Demands.{Inside, below-inside, demand-inside}
+use Rattle.scheduling.specs.Parts.{PlainBelow, Wrote}
+use Rattle.scheduling.specs.Walks.{StartsBelow, TaskObeyed}
+use Rattle.scheduling.proofs.Fronts.{plain-room}
+use Rattle.scheduling.proofs.Cutoffs.{add-starts, cut-length}
+
+-- ---- a plain curve below H, told in two ways
+
+pub plain-below : (H : ℕ) (l : List ℕ) → H ≤ 1000000 → Inside H l → PlainBelow H l
+plain-below H l h p =
+    record { plain = apart-plain 0 l (p .apart) (omega (arith, end-below l 0 H (p .apart) (p .over))); over = p .over }
+
+pub below-plain : (H : ℕ) (l : List ℕ) → PlainBelow H l → Inside H l
+below-plain H l p = record { apart = plain-apart 0 l (p .plain); over = p .over }
+
+-- what lies below a lower end lies below a higher one
+pub plain-higher : (H K : ℕ) (l : List ℕ) → H ≤ K → PlainBelow H l → PlainBelow K l
+plain-higher H K l h p = record { plain = p .plain; over = λ t k. p .over t (omega arith) }
+
+pub plain-ends : (H : ℕ) (l : List ℕ) → PlainBelow H l → endOf l ≤ H
+plain-ends H l p = end-below l 0 H (plain-apart 0 l (p .plain)) (p .over)
+
+-- ---- the call of adding up
+
+module _ (H : ℕ) (a b out : List ℕ) (z : 0 < H) (h : H ≤ 16000) (p : PlainBelow H a) (q : PlainBelow H b) (room : 16000 ≤ length out) where
+  pub starts : StartsBelow H (addUp a b)
+  starts = add-starts H a b z (plain-apart 0 a (p .plain)) (plain-apart 0 b (q .plain)) (p .over) (q .over)
+
+  pub sum-ends : endOf (addUp a b) ≤ 1000000
+  sum-ends = omega (arith, runs-end (done (cover a ⊕ cover b) always) (endOf a + endOf b) 0, plain-ends H a p, plain-ends H b q)
+
+  pub sum-plain : isPlain (addUp a b) ≡ true
+  sum-plain = add-plain a b (plain-apart 0 a (p .plain)) (plain-apart 0 b (q .plain)) sum-ends
+
+  sum-cut : PlainBelow 16000 (below H (addUp a b))
+  sum-cut = plain-higher H 16000 _ h (plain-below H _ (omega arith) (below-inside H (addUp a b) (plain-apart 0 (addUp a b) sum-plain)))
+
+  -- what is kept of the sum has room
+  pub sum-room : length (below H (addUp a b)) ≤ 16000
+  sum-room = plain-room (below H (addUp a b)) sum-cut
+
+  sum-short : length (addUp a b) ≤ length out
+  sum-short = omega (arith, sum-room, cut-length H 0 (addUp a b) (plain-apart 0 (addUp a b) sum-plain) starts)
+
+  sum-fits : fitsIn (addUp a b) (length out) ≡ true
+  sum-fits = rw (le-leb (length (addUp a b)) (length out) sum-short, le-leb (endOf (addUp a b)) 1000000 sum-ends)
+
+  answered : addOutcome a b out ≡ answer (length (addUp a b))
+  answered = rw (p .plain, q .plain, sum-fits)
+
+  -- it is not refused
+  pub add-answers : (ground : Ground) (after : List ℕ) → Adds a b out (Refused ground) after → ⊥
+  add-answers ground after e = differ (e .0 ∙ answered)
+    where
+      refusing : Outcome ℕ → Type 0
+      refusing (refused number line) = Unit {0}
+      refusing (answer n) = ⊥
+
+      differ : {n : ℕ} {m line : ℕ} → refused m line ≡ answer n → ⊥
+      differ d = subst refusing d tt
+
+  -- and the buffer has the sum at its front
+  pub add-writes : (n : ℕ) (after : List ℕ) → Adds a b out (Count n) after → Wrote out after n (addUp a b)
+  add-writes n after e =
+      let count : n ≡ length (addUp a b) = ap amount (e .0 ∙ answered) in
+      let whole : after ≡ front (addUp a b) out = e .1 ∙ ap (λ (o : Outcome ℕ). lent o (addUp a b) out) answered in
+      let long : length after ≡ length out = ap length whole ∙ length-append (addUp a b) (drop (length (addUp a b)) out) ∙ sized in
+      record { same = long; count = omega (arith, sum-short); front = ap (take n) whole ∙ take-at (addUp a b) _ n (sym count) }
+    where
+      amount : Outcome ℕ → ℕ
+      amount (refused number line) = 0
+      amount (answer k) = k
+
+      sized : length (addUp a b) + length (drop (length (addUp a b)) out) ≡ length out
+      sized = omega (arith, length-drop (length (addUp a b)) out, sum-short)
+
+-- a curve that was written and then cut off
+pub written-cut : (H : ℕ) {n : ℕ} {old mid new l : List ℕ} → Wrote old mid n l → Wrote mid new n (below H (take n mid)) → Wrote old new n (below H l)
+written-cut H w v = record { same = v .same ∙ w .same; count = v .count; front = v .front ∙ ap (below H) (w .front) }
+
+-- a curve that was written to one buffer and then copied to another
+pub written-copied : {n : ℕ} {first from old new l : List ℕ} → Wrote first from n l → Wrote old new (length (take n from)) (take n from) → Wrote old new n l
+written-copied {n} {from} {new} w v =
+    let k : length (take n from) ≡ n = length-take-le n from (w .count) in
+    record { same = v .same; count = omega (arith, v .count); front = sym (ap (λ m. take m new) k) ∙ v .front ∙ w .front }
+
+-- a task's demand is a plain curve below the span
+pub demand-plain : (task : Task) (span : ℕ) → TaskObeyed task → span ≤ 16000 → PlainBelow span (demandOf span task)
+demand-plain task span ok h = plain-below span (demandOf span task) (omega arith) (demand-inside span task (ok .some))
+
+-- the same curve by another name
+pub written-same : {n : ℕ} {old new l m : List ℕ} → l ≡ m → Wrote old new n l → Wrote old new n m
+written-same e w = record { same = w .same; count = w .count; front = w .front ∙ e }

@@ -1,0 +1,4 @@
+pub mod Parts
+pub mod Walks
+pub mod Pieces
+pub mod Asking
