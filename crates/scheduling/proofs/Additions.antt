@@ -41,6 +41,14 @@ plain-higher H K l h p = record { plain = p .plain; over = λ t k. p .over t (om
 pub plain-ends : (H : ℕ) (l : List ℕ) → PlainBelow H l → endOf l ≤ H
 plain-ends H l p = end-below l 0 H (plain-apart 0 l (p .plain)) (p .over)
 
+-- ---- a result at the front of a buffer
+
+pub front-wrote : (l old after : List ℕ) (n : ℕ) → length l ≤ length old → n ≡ length l → after ≡ front l old → Wrote old after n l
+front-wrote l old after n h count whole =
+    let sized : length l + length (drop (length l) old) ≡ length old = omega (arith, length-drop (length l) old) in
+    let long : length after ≡ length old = ap length whole ∙ length-append l (drop (length l) old) ∙ sized in
+    record { same = long; count = omega arith; front = ap (take n) whole ∙ take-at l _ n (sym count) }
+
 -- ---- the call of adding up
 
 module _ (H : ℕ) (a b out : List ℕ) (z : 0 < H) (h : H ≤ 16000) (p : PlainBelow H a) (q : PlainBelow H b) (room : 16000 ≤ length out) where
@@ -83,17 +91,11 @@ module _ (H : ℕ) (a b out : List ℕ) (z : 0 < H) (h : H ≤ 16000) (p : Plain
   -- and the buffer has the sum at its front
   pub add-writes : (n : ℕ) (after : List ℕ) → Adds a b out (Count n) after → Wrote out after n (addUp a b)
   add-writes n after e =
-      let count : n ≡ length (addUp a b) = ap amount (e .0 ∙ answered) in
-      let whole : after ≡ front (addUp a b) out = e .1 ∙ ap (λ (o : Outcome ℕ). lent o (addUp a b) out) answered in
-      let long : length after ≡ length out = ap length whole ∙ length-append (addUp a b) (drop (length (addUp a b)) out) ∙ sized in
-      record { same = long; count = omega (arith, sum-short); front = ap (take n) whole ∙ take-at (addUp a b) _ n (sym count) }
+      front-wrote (addUp a b) out after n sum-short (ap amount (e .0 ∙ answered)) (e .1 ∙ ap (λ (o : Outcome ℕ). lent o (addUp a b) out) answered)
     where
       amount : Outcome ℕ → ℕ
       amount (refused number line) = 0
       amount (answer k) = k
-
-      sized : length (addUp a b) + length (drop (length (addUp a b)) out) ≡ length out
-      sized = omega (arith, length-drop (length (addUp a b)) out, sum-short)
 
 -- a curve that was written and then cut off
 pub written-cut : (H : ℕ) {n : ℕ} {old mid new l : List ℕ} → Wrote old mid n l → Wrote mid new n (below H (take n mid)) → Wrote old new n (below H l)

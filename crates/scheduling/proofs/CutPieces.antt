@@ -6,7 +6,7 @@ use mathlib.Core.Bool.{true, false}
 use native.Mathlib.Omega.{arith}
 use lib.ListN.{length, getD}
 use Rattle.scheduling.specs.declared.holding.Place.{Place}
-use Rattle.scheduling.specs.Pieces.{Asks, Takes, Leaves, done, later, spent, Cuts, part, whole, Served}
+use Rattle.scheduling.specs.Pieces.{Offered, Takes, Leaves, done, later, spent, Cuts, part, whole, Served}
 
 not-both : false ≡ true → ⊥
 not-both h = let z : _≡_ {A = ℕ} 0 1 = cc in omega arith
@@ -15,19 +15,19 @@ not-both h = let z : _≡_ {A = ℕ} 0 1 = cc in omega arith
 cuts-left : {demand : List ℕ} {w : Place} {end stop : ℕ} → w .at < stop → stop ≤ end → Leaves demand w stop → Cuts demand w end (record { stop = stop; taken = false })
 cuts-left h k l = record { some = h; within = k; takes = λ e. absurd (not-both e); leaves = λ e. l }
 
-pub cuts-done : {demand : List ℕ} {w : Place} {end : ℕ} → Asks demand w end → length demand ≤ w .demand → Cuts demand w end (record { stop = end; taken = false })
+pub cuts-done : {demand : List ℕ} {w : Place} {end : ℕ} → Offered demand w end → length demand ≤ w .demand → Cuts demand w end (record { stop = end; taken = false })
 cuts-done a h = cuts-left (a .soon) (omega arith) (done h)
 
-pub cuts-later : {demand : List ℕ} {w : Place} {end : ℕ} → Asks demand w end → w .demand < length demand → w .at < w .wanted
+pub cuts-later : {demand : List ℕ} {w : Place} {end : ℕ} → Offered demand w end → w .demand < length demand → w .at < w .wanted
     → Cuts demand w end (record { stop = min end (w .wanted); taken = false })
 cuts-later a h k = cuts-left (omega (arith, a .soon)) (omega arith) (later h (omega arith))
 
-pub cuts-spent : {demand : List ℕ} {w : Place} {end : ℕ} → Asks demand w end → w .budget ≡ 0
+pub cuts-spent : {demand : List ℕ} {w : Place} {end : ℕ} → Offered demand w end → w .budget ≡ 0
     → Cuts demand w end (record { stop = min end (w .until); taken = false })
 cuts-spent a h = cuts-left (omega (arith, a .soon, a .under)) (omega arith) (spent h (omega arith))
 
 -- a piece that is held
-pub cuts-taken : {demand : List ℕ} {w : Place} {end : ℕ} → Asks demand w end → w .demand < length demand → w .wanted ≤ w .at → ¬ (w .budget ≡ 0)
+pub cuts-taken : {demand : List ℕ} {w : Place} {end : ℕ} → Offered demand w end → w .demand < length demand → w .wanted ≤ w .at → ¬ (w .budget ≡ 0)
     → Cuts demand w end (record { stop = w .at + min (min (getD demand (w .demand + 1) 0 - w .wanted) (w .budget)) (min end (w .until) - w .at); taken = true })
 cuts-taken {demand} {w} {end} a h k b =
     let n = min (min (getD demand (w .demand + 1) 0 - w .wanted) (w .budget)) (min end (w .until) - w .at) in

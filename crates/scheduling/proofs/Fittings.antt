@@ -1,25 +1,23 @@
 -- A demand fitted into a supply, both below H: the call is not refused, and all results lie below H. Assumes nothing.
-use Prim.Native.Nat.{ℕ, suc, _+_, _≤_}
-use mathlib.Core.Path.{_≡_, sym, ap, subst, _∙_}
+use Prim.Native.Nat.{ℕ, suc, _≤_}
+use mathlib.Core.Path.{_≡_, ap, subst, _∙_}
 use mathlib.Core.List.{List}
 use mathlib.Core.Bool.{true}
 use native.Mathlib.Omega.{arith}
-use lib.ListN.{length, take, drop, length-append, length-drop}
-use lib.Seq.{take-at, length-take-le}
+use lib.ListN.{length, take}
 use borrow.Author.Tests.{le-leb}
 use Rattle.windows.specs.Windows.{cover, endOf, upto, fit}
 use Rattle.windows.proofs.Fitting.{fit-leaves, fit-served-plain, fit-left-plain, fit-rest-plain, fit-remains}
-use Rattle.curves.specs.Refusals.{Outcome, refused, answer, Lengths, lengthsOf, fitOutcome, fitsIn, front, lent}
+use Rattle.curves.specs.Refusals.{Outcome, refused, answer, Lengths, lengthsOf, fitOutcome, fitsIn, lent}
 use Rattle.curves.specs.Calls.{Fits}
 use Rattle.curves.specs.declared.Fitted.the-variants.{Counts, Refused}
 use Rattle.curves.specs.declared.Ground.{Ground}
 use Rattle.table.specs.declared.Task.{Task}
 use Rattle.schedule.specs.Curves.{demandOf}
-use Rattle.schedule.proofs.Demands.{demand-inside}
 use Rattle.scheduling.specs.Parts.{PlainBelow, Curve, Wrote}
 use Rattle.scheduling.specs.Walks.{TaskObeyed}
 use Rattle.scheduling.proofs.Fronts.{plain-room}
-use Rattle.scheduling.proofs.Additions.{plain-below, plain-higher, plain-ends}
+use Rattle.scheduling.proofs.Additions.{plain-higher, plain-ends, front-wrote, demand-plain}
 
 -- ---- what lies below H has room
 
@@ -31,13 +29,6 @@ room-for H l out h p k = omega (arith, plain-room l (plain-higher H 16000 l h p)
 fits-below : (H : ℕ) (l out : List ℕ) → H ≤ 16000 → PlainBelow H l → 16000 ≤ length out → fitsIn l (length out) ≡ true
 fits-below H l out h p k =
     rw (le-leb (length l) (length out) (room-for H l out h p k), le-leb (endOf l) 1000000 (omega (arith, plain-ends H l p)))
-
--- a result put to the front of a buffer
-front-wrote : (l old after : List ℕ) (n : ℕ) → length l ≤ length old → n ≡ length l → after ≡ front l old → Wrote old after n l
-front-wrote l old after n h count whole =
-    let sized : length l + length (drop (length l) old) ≡ length old = omega (arith, length-drop (length l) old) in
-    let long : length after ≡ length old = ap length whole ∙ length-append l (drop (length l) old) ∙ sized in
-    record { same = long; count = omega arith; front = ap (take n) whole ∙ take-at l _ n (sym count) }
 
 -- ---- the call of fitting
 
@@ -135,15 +126,9 @@ module _ {task : Task} {span m n : ℕ} {first part held : List ℕ} (ok : TaskO
     (w : Wrote first part m (demandOf span task)) (q : Curve held n span) where
   -- the demand lies below the span
   pub demand-below : PlainBelow span (take m part)
-  demand-below = rw (w .front) (plain-below span (demandOf span task) (omega arith) (demand-inside span task (ok .some)))
+  demand-below = rw (w .front) (demand-plain task span ok h)
 
   -- and it can be fitted
   pub share-fits : (left served rest : List ℕ) → 16000 ≤ length left → 16000 ≤ length served → 16000 ≤ length rest
       → Fitting span (take m part) (take n held) left served rest
   share-fits left served rest a b c = record { bound = h; demand = demand-below; supply = q .curve; left-room = a; served-room = b; rest-room = c }
-
--- a curve at the front of a buffer, copied to the front of another
-pub wrote-copy : {a b old new l : List ℕ} {k : ℕ} → Wrote a b k l → Wrote old new (length (take k b)) (take k b) → Wrote old new k l
-wrote-copy {a} {b} {old} {new} {l} {k} w v =
-    let e : length (take k b) ≡ k = length-take-le k b (w .count) in
-    record { same = v .same; count = omega (arith, v .count); front = ap (λ (i : ℕ). take i new) (sym e) ∙ v .front ∙ w .front }

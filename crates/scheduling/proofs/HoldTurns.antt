@@ -9,7 +9,7 @@ use Rattle.windows.proofs.Counts.{upto-rises}
 use Rattle.scheduling.specs.declared.holding.Place.{Place}
 use Rattle.scheduling.specs.Parts.{PlainBelow}
 use Rattle.scheduling.specs.Walks.{taken}
-use Rattle.scheduling.specs.Pieces.{firstPlace, windowBehind, Entered, Asks, Takes, Leaves, done, later, spent, Moved, part, whole, Served, Passed}
+use Rattle.scheduling.specs.Pieces.{firstPlace, windowBehind, Entered, Offered, Takes, Leaves, done, later, spent, Moved, part, whole, Served, Passed}
 use Rattle.scheduling.proofs.WindowsAt.{WindowAt, window-at, window-below}
 use Rattle.scheduling.proofs.HeldBlocks.{upto-still, upto-ones, held-not-free, idle-done, idle-spent, busy-block}
 use Rattle.scheduling.proofs.Standing.{Wants, wants-first, wants-on, wants-part, wants-whole, wants-comes, Paced, Under, paced-first, paced-enter, paced-on, paced-served, Offers, offers-first, offers-next}
@@ -86,8 +86,8 @@ turn-in {C} {T} {demand} {free} {w} {r} {i} {at} g s k e n =
 -- ---- what is free and what is held
 
 module _ {C T : ℕ} {demand free : List ℕ} {from : ℕ} {w : Place} {i : ℕ} (u : Turn C T demand free from w i) where
-  pub turn-asks : Asks demand w (getD free (i + 1) 0)
-  turn-asks = record {
+  pub turn-offered : Offered demand w (getD free (i + 1) 0)
+  turn-offered = record {
     soon = u .high;
     most = u .most;
     under = u .under .soon;

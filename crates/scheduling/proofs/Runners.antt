@@ -13,16 +13,12 @@ use Rattle.table.specs.declared.Table.{Table}
 use Rattle.machine.specs.Machine.{taskAt}
 use Rattle.machine.specs.Parts.{Obeyed}
 use Rattle.machine.proofs.Places.{Walk, walk-starts, walk-goes-on, walk-finds, walk-ends}
-use Rattle.machine.proofs.Obeyed.{span-most, task-some, task-work, task-release}
+use Rattle.machine.proofs.Obeyed.{span-most}
 use Rattle.schedule.specs.Curves.{belongs, demandOf, heldOf, leftBelow, runningOf}
 use Rattle.schedule.proofs.FromCurves.{left-inside}
 use Rattle.scheduling.specs.Parts.{Curve, Wrote}
-use Rattle.scheduling.specs.Walks.{TaskObeyed, runnerOn}
+use Rattle.scheduling.specs.Walks.{runnerOn}
 use Rattle.scheduling.proofs.Additions.{plain-below}
-
--- the rules of a task
-pub task-obeyed : (table : Table) → Obeyed table → (j : ℕ) → j < table .«tasks_n» → TaskObeyed (taskAt table j)
-task-obeyed table ok j h = record { some = task-some table ok j h; most = task-work table ok j h; release = task-release table ok j h }
 
 -- what is found for a place is found for its number
 pub at-place : (table : Table) (t r server : ℕ) → r ≡ runnerOn table (server - 1) t → (i : ℕ) → server ≡ suc i → r ≡ runnerOn table i t

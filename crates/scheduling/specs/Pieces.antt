@@ -26,7 +26,7 @@ pub record Entered (C T : ℕ) (w : Place) (at : ℕ) (r : Place) : Type 0 where
   pub anew : w .until ≤ at → (r .until ≡ at - at % T + T) × (r .budget ≡ C)
 
 -- at a free tick of a window that ends at `end`, inside a period and before the end of the window of demand
-pub record Asks (demand : List ℕ) (w : Place) (end : ℕ) : Type 0 where
+pub record Offered (demand : List ℕ) (w : Place) (end : ℕ) : Type 0 where
   pub soon : w .at < end
   pub most : end ≤ 16000
   pub under : w .at < w .until

@@ -5,7 +5,7 @@ ghost use Prim.Native.Nat.{_+_, _≤_, _<_, min, max};
 ghost use lib.ListN.{length, getD};
 ghost use Rattle.scheduling.specs.Parts.{PlainBelow, Drawn};
 ghost use Rattle.scheduling.specs.Walks.{taken, untaken};
-ghost use Rattle.scheduling.specs.Pieces.{firstPlace, windowBehind, Entered, Asks, Takes, Cuts, Served, Passed};
+ghost use Rattle.scheduling.specs.Pieces.{firstPlace, windowBehind, Entered, Offered, Takes, Cuts, Served, Passed};
 
 // Where the walk stands: every tick below `at` is decided, the demand not yet served starts at `wanted`, in the window at `demand`; the period
 // under way ends at `until` and has `budget` left.
@@ -97,7 +97,7 @@ fn entered(place: Place, at: u32, capacity: u32, period: u32) -> Place
 
 // What comes next of a free window that ends at `end`.
 fn next_piece(place: Place, demand: &[u32], end: u32) -> Piece
-    requires { ⌜ Asks (now demand) place end ⌝ }
+    requires { ⌜ Offered (now demand) place end ⌝ }
     ensures { λ r. ⌜ Cuts (now (demand .entry)) place end r ⌝ }
 {
     let d = place.demand;

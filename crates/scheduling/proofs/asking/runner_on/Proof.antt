@@ -10,7 +10,8 @@ use Rattle.schedule.specs.Curves.{heldOf}
 use Rattle.machine.specs.Machine.{taskAt}
 use Rattle.machine.proofs.Obeyed.{tasks-most, span-some, span-most}
 use Rattle.scheduling.specs.Walks.{runnerOn}
-use Rattle.scheduling.proofs.Runners.{task-obeyed, at-place, Walked, walked-none, walked-curve, walked-all, walked-other, walked-here, walked-next}
+use Rattle.scheduling.proofs.Sums.{task-obeyed}
+use Rattle.scheduling.proofs.Runners.{at-place, Walked, walked-none, walked-curve, walked-all, walked-other, walked-here, walked-next}
 use Rattle.scheduling.proofs.asking.runner_on.Statement.{statement}
 use Rattle.scheduling.proofs.asking.runner_on.Tie as tie
 

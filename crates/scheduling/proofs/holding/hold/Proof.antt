@@ -2,7 +2,7 @@
 use Prim.Native.Nat.{_-_}
 use native.Mathlib.Omega.{arith}
 use borrow.Author.Needs.{needs}
-use Rattle.scheduling.proofs.HoldTurns.{Given, Stands, stands-first, free-window, free-most, Turn, turn-in, turn-asks}
+use Rattle.scheduling.proofs.HoldTurns.{Given, Stands, stands-first, free-window, free-most, Turn, turn-in, turn-offered}
 use Rattle.scheduling.proofs.HoldDraws.{Draws, draws-none, draws-room, turn-held, turn-passed, turn-less, draws-all}
 use Rattle.scheduling.proofs.holding.hold.Statement.{statement}
 use Rattle.scheduling.proofs.holding.hold.Tie as tie
@@ -54,7 +54,7 @@ entered-requires c κs =
     (c .before .before .before .before .before .before .before .before .before .before .pre .0, c .before .before .before .before .before .before .before .before .before .before .pre .1, omega (arith, c .before .larger .ensures, s .most, free-window g s k .rises, free-most g s k))
 
 next-piece-requires : tie.Need-next-piece-requires Inv-loop μ-loop
-next-piece-requires c κs = turn-asks (turn c)
+next-piece-requires c κs = turn-offered (turn c)
 
 next-window-requires : tie.Need-next-window-requires Inv-loop μ-loop
 next-window-requires c κs = turn (c .before) .window .pair

@@ -43,8 +43,8 @@ hold-requires c κs =
     let few = server-ticks (a .t1) (p .0) (a .i) (p .1) in
     let span = span-most (a .t1) (p .0) in (
       server-period (a .t1) (p .0) (a .i) (p .1),
-      few .1,
-      few .0,
+      omega (arith, few .1),
+      omega (arith, few .0, few .1),
       plain-higher (a .t1 .span) 16000 _ span (rw (w .0 .front) (wanted-plain (a .t1) (p .0) (a .i))),
       plain-higher (a .t1 .span) 16000 _ span (p .2 .curve),
       p .5,

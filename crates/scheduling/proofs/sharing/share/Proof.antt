@@ -7,7 +7,8 @@ use lib.ListN.{take}
 use lib.Seq.{length-take-le}
 use Rattle.curves.specs.Calls.{Fits}
 use Rattle.curves.specs.declared.Fitted.{Fitted}
-use Rattle.scheduling.proofs.Fittings.{Fitting, Results, fit-answers, fit-writes, left-short, share-fits, wrote-copy}
+use Rattle.scheduling.proofs.Additions.{written-copied}
+use Rattle.scheduling.proofs.Fittings.{Fitting, Results, fit-answers, fit-writes, left-short, share-fits}
 use Rattle.scheduling.proofs.sharing.share.Statement.{statement}
 use Rattle.scheduling.proofs.sharing.share.Tie as tie
 
@@ -113,7 +114,7 @@ returns-2 c =
     let r = results (c .before .before .before .before .before .before) in
     let d = c .before .before .before .before .before .before .before .before .before .before .before .before .before .before .before .before .before .before .before .before .before .before .demand .ensures in (
       rw (d .front) at (r .serves),
-      rw (d .front) at (wrote-copy (r .leaves) (c .before .before .copy .ensures)),
+      rw (d .front) at (written-copied (r .leaves) (c .before .before .copy .ensures)),
       d .same,
       r .leaves .same,
       r .same,
