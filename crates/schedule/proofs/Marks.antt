@@ -33,7 +33,7 @@ unmarked-one n zero = omega arith
 unmarked-one n (suc i) = omega (arith, unmarked-one n i)
 
 -- this is 1 up to the number's own place
-unmarked-before : (n i : ℕ) → i < n → unmarked n i ≡ 1
+pub unmarked-before : (n i : ℕ) → i < n → unmarked n i ≡ 1
 unfolding unmarked
 unmarked-before n zero h = refl
 unmarked-before n (suc i) h = omega (arith, unmarked-before n i (omega arith), mark-other n i (λ e. omega arith))

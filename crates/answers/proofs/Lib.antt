@@ -1,0 +1,5 @@
+pub mod Examples
+pub mod FreeTicks
+pub mod Judging
+pub mod Responses
+pub mod AfterRelease

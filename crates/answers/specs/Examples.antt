@@ -1,0 +1,18 @@
+-- Document 01, the reports of tables A, B and C (the printed report and examples 11 and 12), margins apart.
+use Prim.Native.Nat.{ℕ}
+use mathlib.Core.Path.{_≡_}
+use Rattle.machine.specs.Examples.{tableA, tableB, tableC}
+use Rattle.answers.specs.Answers.{worst, outcomeOf, fullPeriods, firstShort}
+
+pub record Checked : Type 0 where
+  pub a-one : outcomeOf tableA 0 ≡ worst 1 0
+  pub a-two : outcomeOf tableA 1 ≡ worst 3 35
+  pub a-three : outcomeOf tableA 2 ≡ worst 7 0
+  pub a-full : (fullPeriods tableA 0 ≡ 4) × (fullPeriods tableA 1 ≡ 10)
+  pub a-short : (firstShort tableA 0 ≡ 0) × (firstShort tableA 1 ≡ 0)
+  pub b-one : outcomeOf tableB 0 ≡ worst 4 3
+  pub b-two : outcomeOf tableB 1 ≡ worst 4 4
+  pub b-full : (fullPeriods tableB 0 ≡ 1) × (fullPeriods tableB 1 ≡ 2)
+  pub b-short : (firstShort tableB 0 ≡ 0) × (firstShort tableB 1 ≡ 2)
+  pub c-one : outcomeOf tableC 0 ≡ worst 4 3
+  pub c-two : outcomeOf tableC 1 ≡ worst 3 0
