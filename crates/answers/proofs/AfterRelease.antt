@@ -16,7 +16,7 @@ use Rattle.machine.specs.Parts.{Obeyed}
 use Rattle.machine.proofs.Obeyed.{task-some}
 use Rattle.machine.proofs.WholeRun.{work-counts}
 use Rattle.schedule.specs.Curves.{releasesFrom}
-use Rattle.answers.proofs.Responses.{Job, releasesOf, Ends}
+use Rattle.answers.specs.Jobs.{Job, releasesOf, Ends}
 
 -- before its release at place i of the list, i jobs more came than before the list
 work-before : (task : Task) (k t i : ℕ) → i < length (releasesFrom (task .release) k t)

@@ -21,4 +21,5 @@ checked = record {
   b-short = (refl, refl);
   c-one = refl;
   c-two = refl;
+  margins = (refl, refl, refl);
 }

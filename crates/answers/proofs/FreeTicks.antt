@@ -19,10 +19,7 @@ use Rattle.schedule.proofs.Marks.{mark-other, unmarked, unmarked-before, unmark
 use Rattle.schedule.proofs.FromCurves.{free-cover}
 use Rattle.schedule.proofs.AsServers.{free-same}
 use Rattle.answers.specs.Answers.{fullPeriods, freeIn}
-
--- 1 where no server above place i holds the tick in the machine, and 0 elsewhere
-abbrev pub unheld : Table → ℕ → ℕ → ℕ
-unheld table i t = pick (eqb (holderAt table t) 0) 1 (pick (ltb i (holderAt table t)) 1 0)
+use Rattle.answers.specs.Jobs.{unheld, unheldIn}
 
 -- where there is no number, no place is its own
 unmarked-zero : (i : ℕ) → unmarked 0 i ≡ 1
@@ -62,8 +59,7 @@ module _ (table : Table) (ok : Obeyed table) (i : ℕ) (h : i < table .«servers
   ends-full k l = le-div-iff-mul-le (server-period table ok i h) .1 l
 
   -- the free ticks of a full period are those of the machine
-  pub free-counts : (k : ℕ) → k < fullPeriods table i
-      → freeIn table i k ≡ upto (unheld table i) (suc k * serverAt table i .period) - upto (unheld table i) (k * serverAt table i .period)
+  pub free-counts : (k : ℕ) → k < fullPeriods table i → freeIn table i k ≡ unheldIn table i k
   free-counts k l =
       let T = serverAt table i .period in
       let e : suc k * T ≤ table .span = full-ends k l in

@@ -21,30 +21,10 @@ use Rattle.schedule.specs.Curves.{releasesFrom, runningOf}
 use Rattle.schedule.proofs.FromCurves.{running-inside, running-cover}
 use Rattle.schedule.proofs.AsMachine.{run-is-machine}
 use Rattle.answers.specs.Answers.{worst, unfinished, none, outcomeOf}
+use Rattle.answers.specs.Jobs.{Job, releasesOf, Ends, Ended, Worst, Unfinished}
 use Rattle.answers.proofs.Judging.{JobFrom, finish, Finishes, worst-of, unfinished-of, none-of}
 
 -- ---- jobs
-
--- job n (from 1) is released at r
-pub record Job (releases : List ℕ) (n r : ℕ) : Type 0 where
-  pub some : 1 ≤ n
-  pub most : n ≤ length releases
-  pub release : getD releases (n - 1) 0 ≡ r
-
--- the releases of the task at place k in the span
-abbrev pub releasesOf : Table → ℕ → List ℕ
-releasesOf table k = releasesFrom (taskAt table k .release) (table .span) 0
-
--- in the machine, job n of the task at place k ends at the instant t of the span: the task has then run n times its work, and ran in the tick before
-pub record Ends (table : Table) (k n t : ℕ) : Type 0 where
-  pub within : t ≤ table .span
-  pub ran : upto (runsIn table k) t ≡ n * taskAt table k .work
-  pub last : (u : ℕ) → t ≡ suc u → runsIn table k u ≡ 1
-
--- it ends in the span
-pub record Ended (table : Table) (k n : ℕ) : Type 0 where
-  pub instant : ℕ
-  pub ends : Ends table k n instant
 
 -- a job by its place in the list is one by its number
 numbered : (rs : List ℕ) (j i : ℕ) → i < length rs → JobFrom j rs (j + i) (getD rs i 0)
@@ -141,18 +121,7 @@ module _ (table : Table) (ok : Obeyed table) (k : ℕ) (h : k < table .«tasks_n
   abbrev finishes-ended : (n : ℕ) → 1 ≤ n → Finishes curve work n → Ended table k n
   finishes-ended n s e = record { instant = finish curve work n; ends = provided-ends n (finish curve work n) s e }
 
-  -- ---- "the worst response is the largest finish minus release in that machine over the jobs released in the span, if all of them finish in it"
-  pub record Worst (m q : ℕ) : Type 0 where
-    -- every job ends, none with a response above m
-    pub all : (n r : ℕ) → Job (releasesOf table k) n r → Ended table k n
-    pub most : (n r : ℕ) (j : Job (releasesOf table k) n r) → all n r j .instant - r ≤ m
-    -- the job released at q has it, and none before
-    pub job : ℕ
-    pub released : Job (releasesOf table k) job q
-    pub attains : all job q released .instant - q ≡ m
-    pub first : (n r : ℕ) (j : Job (releasesOf table k) n r) → n < job → all n r j .instant - r < m
-
-  pub worst-is : (m q : ℕ) → outcomeOf table k ≡ worst m q → Worst m q
+  pub worst-is : (m q : ℕ) → outcomeOf table k ≡ worst m q → Worst table k m q
   unfolding outcomeOf
   worst-is m q e =
       let w = worst-of curve work (releasesOf table k) none 1 m q e in
@@ -166,14 +135,7 @@ module _ (table : Table) (ok : Obeyed table) (k : ℕ) (h : k < table .«tasks_n
         first = λ n r j l. a .first n r (job-numbered (releasesOf table k) n r j) l;
       }
 
-  -- ---- "if not, the first one that doesn't is given by its release"
-  pub record Unfinished (q : ℕ) : Type 0 where
-    pub job : ℕ
-    pub released : Job (releasesOf table k) job q
-    pub short : upto (runsIn table k) (table .span) < job * taskAt table k .work
-    pub before : (n r : ℕ) → Job (releasesOf table k) n r → n < job → Ended table k n
-
-  pub unfinished-is : (q : ℕ) → outcomeOf table k ≡ unfinished q → Unfinished q
+  pub unfinished-is : (q : ℕ) → outcomeOf table k ≡ unfinished q → Unfinished table k q
   unfolding outcomeOf
   unfinished-is q e =
       let u = unfinished-of curve work (releasesOf table k) none 1 q refl e in

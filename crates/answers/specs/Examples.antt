@@ -1,8 +1,9 @@
--- Document 01, the reports of tables A, B and C (the printed report and examples 11 and 12), margins apart.
+-- Document 01, the reports of tables A, B and C (the printed report and examples 11 and 12), and margins at zero and at both ends.
 use Prim.Native.Nat.{ℕ}
 use mathlib.Core.Path.{_≡_}
+use lib.IntN.{pos, negsuc}
 use Rattle.machine.specs.Examples.{tableA, tableB, tableC}
-use Rattle.answers.specs.Answers.{worst, outcomeOf, fullPeriods, firstShort}
+use Rattle.answers.specs.Answers.{worst, outcomeOf, fullPeriods, firstShort, marginOf}
 
 pub record Checked : Type 0 where
   pub a-one : outcomeOf tableA 0 ≡ worst 1 0
@@ -16,3 +17,5 @@ pub record Checked : Type 0 where
   pub b-short : (firstShort tableB 0 ≡ 0) × (firstShort tableB 1 ≡ 2)
   pub c-one : outcomeOf tableC 0 ≡ worst 4 3
   pub c-two : outcomeOf tableC 1 ≡ worst 3 0
+  -- negsuc n is minus n plus one
+  pub margins : (marginOf 16000 1 ≡ pos 15999) × (marginOf 7 7 ≡ pos 0) × (marginOf 1 16000 ≡ negsuc 15998)

@@ -124,6 +124,12 @@ module _ (table : Table) (ok : Obeyed table) where
       let e = and-right (inTicks (taskAt table j .work)) _ (task-rest j h) in
       and-left (releaseObeys (taskAt table j .release)) _ e
 
+  pub task-deadline : (j : ℕ) → j < table .«tasks_n» → (1 ≤ taskAt table j .deadline) × (taskAt table j .deadline ≤ 16000)
+  task-deadline j h =
+      let e = and-right (inTicks (taskAt table j .work)) _ (task-rest j h) in
+      let d = and-right (releaseObeys (taskAt table j .release)) _ e in
+      (between-low 1 16000 (taskAt table j .deadline) d, between-high 1 16000 (taskAt table j .deadline) d)
+
 -- a task gains its work or nothing
 pub gains-most : (task : Task) (t : ℕ) → gains task t ≤ task .work
 gains-most task t = go (releasedAt (task .release) t)

@@ -4,25 +4,22 @@ use mathlib.Core.Path.{_≡_, refl, sym, ap, _∙_}
 use mathlib.Core.List.{List}
 use mathlib.Core.Bool.{Bool, true, false, _&&_}
 use native.Mathlib.Omega.{arith}
-use native.Mathlib.Numerals.{add-one}
 use native.Mathlib.Decide.{decLt}
 use lib.ListN.{length, take}
 use lib.Dec.{ltb}
 use borrow.Author.Tests.{le-ltb, ltb-true, ltb-false, eqb-true, eqb-false}
-use Rattle.windows.specs.Windows.{pick, cover, window}
+use Rattle.windows.specs.Windows.{pick, cover}
 use Rattle.table.specs.declared.Table.{Table}
 use Rattle.machine.specs.Machine.{taskAt, firstOf}
 use Rattle.machine.specs.Parts.{Obeyed}
 use Rattle.machine.proofs.Places.{Walk, walk-starts, walk-goes-on, walk-finds, walk-ends, first-not, none-of}
-use Rattle.machine.proofs.Obeyed.{span-most, task-server}
-use Rattle.schedule.specs.Curves.{belongs, freeOf, heldIn, heldOf, without, runningOf, holderFrom, runnerFrom}
-use Rattle.schedule.proofs.FromCurves.{free-inside, running-held}
+use Rattle.machine.proofs.Obeyed.{task-server}
+use Rattle.schedule.specs.Curves.{belongs, heldIn, heldOf, without, runningOf, holderFrom, runnerFrom}
+use Rattle.schedule.proofs.FromCurves.{running-held}
 use Rattle.schedule.proofs.Agreement.{held-share-none}
-use Rattle.scheduling.specs.Parts.{Curve, Drawn, Wrote, with-window}
+use Rattle.scheduling.specs.Parts.{Drawn, Wrote, with-window}
 use Rattle.scheduling.specs.Walks.{runnerOn}
-use Rattle.scheduling.proofs.Additions.{plain-below, written-same}
-use Rattle.scheduling.proofs.Sums.{written-curve}
-use Rattle.scheduling.proofs.ServerTicks.{span-drawn}
+use Rattle.scheduling.proofs.FreeCurves.{Freed, freed-starts, freed-next}
 
 -- tests that agree find the same place
 first-same : (p q : ℕ → Bool) (k i : ℕ) → ((u : ℕ) → i ≤ u → u < i + k → p u ≡ q u) → firstOf p k i ≡ firstOf q k i
@@ -73,33 +70,16 @@ module _ (table : Table) (ok : Obeyed table) (t : ℕ) where
 
 -- ---- the walk down the servers
 
--- it has come to place i: the first n numbers of a buffer are the server's free curve, and no server above holds the tick
+-- it has come to place i, with the server's free curve, and no server above holds the tick
 pub record Asking (table : Table) (t : ℕ) (first free : List ℕ) (n i : ℕ) : Type 0 where
   pub walk : Walk (λ k. ltb 0 (cover (heldOf table k) t)) (table .«servers_n») i
-  pub written : Wrote first free n (freeOf table i)
+  pub freed : Freed table first free n i
 
 pub asking-starts : (table : Table) → Obeyed table → (t : ℕ) {old now : List ℕ} {n : ℕ} → Drawn old now n (with-window (take 0 old) 0 (table .span))
     → Asking table t now now n 0
-unfolding freeOf
-asking-starts table ok t d =
-    let w = span-drawn (table .span) (span-most table ok) d in
-    record { walk = walk-starts _ (table .«servers_n»); written = record { same = refl; count = w .count; front = w .front } }
-
--- what is known of a place is known of its number
-pub own-place : (table : Table) (i : ℕ) (l : List ℕ) → i < table .«servers_n» → l ≡ heldOf table i
-    → (k : ℕ) → i + 1 ≡ suc k → (k < table .«servers_n») × (l ≡ heldOf table k)
-own-place table i l h e k d = let same : i ≡ k = omega arith in (omega arith, e ∙ ap (heldOf table) same)
+asking-starts table ok t d = record { walk = walk-starts _ (table .«servers_n»); freed = freed-starts table ok d }
 
 module _ (table : Table) (ok : Obeyed table) (t : ℕ) (first free : List ℕ) (n i : ℕ) (w : Asking table t first free n i) where
-  pub asking-curve : 16000 ≤ length first → Curve free n (table .span)
-  asking-curve room =
-      written-curve (table .span) room (w .written)
-      (plain-below (table .span) (freeOf table i) (omega (arith, span-most table ok)) (free-inside table ok i (w .walk .within)))
-
-  -- the server's held ticks are written
-  pub asking-held : {old new : List ℕ} {k : ℕ} → Wrote old new k (heldIn table i (take n free)) → Wrote old new k (heldOf table i)
-  asking-held v = written-same (ap (heldIn table i) (w .written .front)) v
-
   module _ (h : i < table .«servers_n») {old new : List ℕ} {k : ℕ} (v : Wrote old new k (heldOf table i)) (b : Bool) (e : b ≡ ltb 0 (cover (take k new) t)) where
     tested : ltb 0 (cover (heldOf table i) t) ≡ b
     tested = ap (λ (l : List ℕ). ltb 0 (cover l t)) (sym (v .front)) ∙ sym e
@@ -111,13 +91,7 @@ module _ (table : Table) (ok : Obeyed table) (t : ℕ) (first free : List ℕ) (
     -- it does not, and the next server has what it leaves
     pub asking-next : {after : List ℕ} {m : ℕ} → b ≡ false → Wrote free after m (without (table .span) (take n free) (heldIn table i (take n free)))
         → Asking table t first after m (i + 1)
-    unfolding freeOf
-    asking-next {after} {m} q l =
-        let same : without (table .span) (take n free) (heldIn table i (take n free)) ≡ freeOf table (i + 1) = rw (add-one i, w .written .front) in
-        record {
-          walk = walk-goes-on (w .walk) h (tested ∙ q);
-          written = record { same = l .same ∙ w .written .same; count = l .count; front = l .front ∙ same };
-        }
+    asking-next q l = record { walk = walk-goes-on (w .walk) h (tested ∙ q); freed = freed-next table ok first free n i (w .freed) h l }
 
   -- nobody holds it
   pub asking-ends : table .«servers_n» ≤ i → (0 ≡ holderFrom table t) × (0 ≡ runnerFrom table t)

@@ -1,21 +1,23 @@
--- The call has one outcome for each input, and its answer is the machine's. Assumes nothing.
+-- Each public call has one outcome for each input, and the answer by tick is the machine's. Assumes nothing.
 use Prim.Native.Nat.{ℕ, _<_}
-use mathlib.Core.Path.{_≡_, refl, sym, ap, ap₂, _∙_}
+use mathlib.Core.Path.{_≡_, refl, sym, ap, _∙_}
 use mathlib.Core.List.{List}
 use mathlib.Core.Bool.{true}
-use lib.Dec.{leb}
 use borrow.Author.Tests.{lt-leb}
 use Rattle.reading.specs.Reading.{readingOf}
 use Rattle.reading.specs.declared.Answer.the-variants.{Accepted}
 use Rattle.machine.specs.Run.{holderAt, runnerAt}
 use Rattle.schedule.proofs.Agreement.{holder-agrees, runner-agrees}
+use Rattle.answers.specs.declared.Analysis.{Analysis}
 use Rattle.scheduling.specs.declared.Who.{Who}
-use Rattle.scheduling.specs.Asking.{whoOf, afterwards, Asks}
-use Rattle.scheduling.proofs.Answers.{accepted-obeyed}
+use Rattle.scheduling.specs.Buffers.{afterwards, Buffers}
+use Rattle.scheduling.specs.Asking.{whoOf, Asks}
+use Rattle.scheduling.specs.Analysing.{Analyses}
+use Rattle.scheduling.proofs.Calls.{accepted-obeyed, by-number}
 
--- ---- two outcomes that the contract permits are equal
+-- ---- two outcomes that a contract permits are equal
 
-pub record Same (r q : Who) (a b c d e f a′ b′ c′ d′ e′ f′ : List ℕ) : Type 0 where
+pub record Same {A : Type 0} (r q : A) (a b c d e f a′ b′ c′ d′ e′ f′ : List ℕ) : Type 0 where
   pub answer : r ≡ q
   pub first : a ≡ a′
   pub second : b ≡ b′
@@ -24,23 +26,28 @@ pub record Same (r q : Who) (a b c d e f a′ b′ c′ d′ e′ f′ : List �
   pub fifth : e ≡ e′
   pub sixth : f ≡ f′
 
--- a buffer afterwards, by equal answers
-one-buffer : {r q : Who} {new other : List ℕ} (old : List ℕ) → r ≡ q → new ≡ afterwards r old → other ≡ afterwards q old → new ≡ other
-one-buffer old e p o = p ∙ ap (λ (w : Who). afterwards w old) e ∙ sym o
+-- where the answers are equal and give the number, the buffers are equal
+same-all : {A : Type 0} (number : A → ℕ) {r q : A} {a b c d e f a₁ b₁ c₁ d₁ e₁ f₁ a₂ b₂ c₂ d₂ e₂ f₂ : List ℕ} → r ≡ q
+    → Buffers (number r) a b c d e f a₁ b₁ c₁ d₁ e₁ f₁ → Buffers (number q) a b c d e f a₂ b₂ c₂ d₂ e₂ f₂ → Same r q a₁ b₁ c₁ d₁ e₁ f₁ a₂ b₂ c₂ d₂ e₂ f₂
+same-all number p v w =
+    let u = by-number (ap number p) v in
+    record {
+      answer = p;
+      first = u .first ∙ sym (w .first);
+      second = u .second ∙ sym (w .second);
+      third = u .third ∙ sym (w .third);
+      fourth = u .fourth ∙ sym (w .fourth);
+      fifth = u .fifth ∙ sym (w .fifth);
+      sixth = u .sixth ∙ sym (w .sixth);
+    }
 
 pub asks-once : (text : List ℕ) (tick : ℕ) (a b c d e f : List ℕ) {r q : Who} {a₁ b₁ c₁ d₁ e₁ f₁ a₂ b₂ c₂ d₂ e₂ f₂ : List ℕ}
     → Asks text tick a b c d e f r a₁ b₁ c₁ d₁ e₁ f₁ → Asks text tick a b c d e f q a₂ b₂ c₂ d₂ e₂ f₂ → Same r q a₁ b₁ c₁ d₁ e₁ f₁ a₂ b₂ c₂ d₂ e₂ f₂
-asks-once text tick a b c d e f p o =
-    let same = p .answer ∙ sym (o .answer) in
-    record {
-      answer = same;
-      first = one-buffer a same (p .first) (o .first);
-      second = one-buffer b same (p .second) (o .second);
-      third = one-buffer c same (p .third) (o .third);
-      fourth = one-buffer d same (p .fourth) (o .fourth);
-      fifth = one-buffer e same (p .fifth) (o .fifth);
-      sixth = one-buffer f same (p .sixth) (o .sixth);
-    }
+asks-once text tick a b c d e f p o = same-all (λ (w : Who). w .number) (p .answer ∙ sym (o .answer)) (p .buffers) (o .buffers)
+
+pub analyses-once : (text : List ℕ) (a b c d e f : List ℕ) {r q : Analysis} {a₁ b₁ c₁ d₁ e₁ f₁ a₂ b₂ c₂ d₂ e₂ f₂ : List ℕ}
+    → Analyses text a b c d e f r a₁ b₁ c₁ d₁ e₁ f₁ → Analyses text a b c d e f q a₂ b₂ c₂ d₂ e₂ f₂ → Same r q a₁ b₁ c₁ d₁ e₁ f₁ a₂ b₂ c₂ d₂ e₂ f₂
+analyses-once text a b c d e f p o = same-all (λ (w : Analysis). w .number) (p .answer ∙ sym (o .answer)) (p .buffers) (o .buffers)
 
 -- ---- for every accepted text and every tick of its span, with room enough, the answer is the machine's
 

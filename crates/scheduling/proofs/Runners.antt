@@ -3,7 +3,6 @@ use Prim.Native.Nat.{ℕ, suc, _+_, _-_, _≤_, _<_}
 use mathlib.Core.Path.{_≡_, sym, ap, _∙_}
 use mathlib.Core.List.{List}
 use mathlib.Core.Bool.{Bool, true, false, _&&_}
-use native.Mathlib.Numerals.{add-one}
 use native.Mathlib.Omega.{arith}
 use lib.ListN.{length, take}
 use lib.Dec.{ltb}
@@ -11,14 +10,11 @@ use borrow.Author.Tests.{eq-eqb, ne-eqb}
 use Rattle.windows.specs.Windows.{cover, fit}
 use Rattle.table.specs.declared.Table.{Table}
 use Rattle.machine.specs.Machine.{taskAt}
-use Rattle.machine.specs.Parts.{Obeyed}
 use Rattle.machine.proofs.Places.{Walk, walk-starts, walk-goes-on, walk-finds, walk-ends}
-use Rattle.machine.proofs.Obeyed.{span-most}
-use Rattle.schedule.specs.Curves.{belongs, demandOf, heldOf, leftBelow, runningOf}
-use Rattle.schedule.proofs.FromCurves.{left-inside}
-use Rattle.scheduling.specs.Parts.{Curve, Wrote}
+use Rattle.schedule.specs.Curves.{belongs, demandOf, heldOf, runningOf}
+use Rattle.scheduling.specs.Parts.{Wrote}
 use Rattle.scheduling.specs.Walks.{runnerOn}
-use Rattle.scheduling.proofs.Additions.{plain-below}
+use Rattle.scheduling.proofs.LeftTicks.{Left, left-all, left-other, left-served, left-next}
 
 -- what is found for a place is found for its number
 pub at-place : (table : Table) (t r server : ℕ) → r ≡ runnerOn table (server - 1) t → (i : ℕ) → server ≡ suc i → r ≡ runnerOn table i t
@@ -30,58 +26,35 @@ at-place table t r server e i k = let same : server - 1 ≡ i = omega arith in e
 abbrev pub runsIn : Table → ℕ → ℕ → ℕ → Bool
 runsIn table i t j = belongs table i j && ltb 0 (cover (runningOf table j) t)
 
--- it has come to place j: the first k numbers of a buffer are the ticks left to the task there
+-- it has come to place j, with the ticks left to the task there
 pub record Walked (table : Table) (i t : ℕ) (held : List ℕ) (k j : ℕ) : Type 0 where
   pub walk : Walk (runsIn table i t) (table .«tasks_n») j
-  pub count : k ≤ length held
-  pub front : take k held ≡ leftBelow table i j
+  pub left : Left table i held k j
 
--- at first all held ticks are left
 pub walked-none : (table : Table) (i t : ℕ) (held : List ℕ) (n : ℕ) → n ≤ length held → take n held ≡ heldOf table i → Walked table i t held n 0
-unfolding leftBelow
-walked-none table i t held n h e = record { walk = walk-starts (runsIn table i t) (table .«tasks_n»); count = h; front = e }
+walked-none table i t held n h e = record { walk = walk-starts (runsIn table i t) (table .«tasks_n»); left = left-all table i held n h e }
 
 module _ {table : Table} {i t : ℕ} {held : List ℕ} {k j : ℕ} (w : Walked table i t held k j) where
-  -- the ticks left are a curve below the span
-  pub walked-curve : Obeyed table → i < table .«servers_n» → 16000 ≤ length held → Curve held k (table .span)
-  walked-curve ok h room =
-      let p = plain-below (table .span) (leftBelow table i j) (omega (arith, span-most table ok)) (left-inside table ok i h j (w .walk .within)) in
-      record { room = room; count = w .count; curve = rw (w .front) p }
-
   -- in the end no task runs
   pub walked-all : table .«tasks_n» ≤ j → 0 ≡ runnerOn table i t
   walked-all h = sym (walk-ends (w .walk) h)
 
   module _ (h : j < table .«tasks_n») where
-    -- the demand of the task there
-    abbrev demand : List ℕ
-    demand = demandOf (table .span) (taskAt table j)
-
     -- a task of another server is passed
     pub walked-other : ¬ (taskAt table j .server ≡ suc i) → Walked table i t held k (j + 1)
-    unfolding leftBelow
     walked-other d =
         let not : belongs table i j ≡ false = ne-eqb (taskAt table j .server) (suc i) d in
-        let same : leftBelow table i (j + 1) ≡ leftBelow table i j = rw (add-one j, not) in
-        record { walk = walk-goes-on (w .walk) h (rw not); count = w .count; front = w .front ∙ sym same }
+        record { walk = walk-goes-on (w .walk) h (rw not); left = left-other (w .left) h d }
 
     -- the ticks of a task of the server are written, and those that it leaves
     module _ {first run after : List ℕ} {m l : ℕ} (e : taskAt table j .server ≡ suc i)
-        (served : Wrote first run m (fit demand (take k held) .served)) (left : Wrote held after l (fit demand (take k held) .left)) where
-      -- the task belongs to it
-      mine : belongs table i j ≡ true
-      mine = eq-eqb (taskAt table j .server) (suc i) e
-
-      -- the written ticks are those in which it runs
-      running-is : take m run ≡ runningOf table j
-      unfolding runningOf
-      running-is =
-          let same : i ≡ taskAt table j .server - 1 = omega arith in
-          served .front ∙ ap (λ (l : List ℕ). fit demand l .served) (w .front ∙ ap (λ (p : ℕ). leftBelow table p j) same)
-
+        (served : Wrote first run m (fit (demandOf (table .span) (taskAt table j)) (take k held) .served))
+        (left : Wrote held after l (fit (demandOf (table .span) (taskAt table j)) (take k held) .left)) where
       -- whether the task is the one
       tested : (b : Bool) → b ≡ ltb 0 (cover (take m run) t) → runsIn table i t j ≡ b
-      tested b d = rw mine (ap (λ (l : List ℕ). ltb 0 (cover l t)) (sym running-is) ∙ sym d)
+      tested b d =
+          rw (eq-eqb (taskAt table j .server) (suc i) e)
+          (ap (λ (l : List ℕ). ltb 0 (cover l t)) (sym (left-served (w .left) h e served)) ∙ sym d)
 
       -- the task runs
       pub walked-here : (b : Bool) → b ≡ ltb 0 (cover (take m run) t) → b ≡ true → j + 1 ≡ runnerOn table i t
@@ -89,11 +62,4 @@ module _ {table : Table} {i t : ℕ} {held : List ℕ} {k j : ℕ} (w : Walked t
 
       -- it does not, and the next has what it leaves
       pub walked-next : (b : Bool) → b ≡ ltb 0 (cover (take m run) t) → b ≡ false → Walked table i t after l (j + 1)
-      unfolding leftBelow
-      walked-next b d q =
-          let same : leftBelow table i (j + 1) ≡ fit demand (leftBelow table i j) .left = rw (add-one j, mine) in
-          record {
-            walk = walk-goes-on (w .walk) h (tested b d ∙ q);
-            count = left .count;
-            front = left .front ∙ ap (λ (l : List ℕ). fit demand l .left) (w .front) ∙ sym same;
-          }
+      walked-next b d q = record { walk = walk-goes-on (w .walk) h (tested b d ∙ q); left = left-next (w .left) h e left }

@@ -12,7 +12,7 @@ ghost use Rattle.scheduling.specs.Parts.{Wrote};
 ghost use Rattle.scheduling.specs.Walks.{TaskObeyed, firstRelease, nextRelease};
 
 // The first release of a task.
-fn first_release(release: Release) -> u32
+pub fn first_release(release: Release) -> u32
     ensures { λ r. ⌜ r ≡ firstRelease release ⌝ }
 {
     match release {
@@ -22,7 +22,7 @@ fn first_release(release: Release) -> u32
 }
 
 // The release after one, or 16,000 and more where none follows below the end of a span.
-fn next_release(release: Release, last: u32) -> u32
+pub fn next_release(release: Release, last: u32) -> u32
     requires { ⌜ (releaseObeys release ≡ true) × (last ≤ 16000) ⌝ }
     ensures { λ r. ⌜ r ≡ nextRelease release last ⌝ }
 {

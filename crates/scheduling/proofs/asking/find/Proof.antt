@@ -13,7 +13,8 @@ use Rattle.machine.proofs.Obeyed.{servers-most, span-some, span-most}
 use Rattle.schedule.specs.Curves.{heldOf}
 use Rattle.scheduling.specs.Parts.{Wrote}
 use Rattle.scheduling.proofs.ServerTicks.{empty-curve}
-use Rattle.scheduling.proofs.Found.{Asking, asking-starts, own-place, asking-curve, asking-held, asking-found, asking-next, asking-ends}
+use Rattle.scheduling.proofs.FreeCurves.{own-place, freed-curve, freed-held}
+use Rattle.scheduling.proofs.Found.{Asking, asking-starts, asking-found, asking-next, asking-ends}
 use Rattle.scheduling.proofs.asking.find.Statement.{statement}
 use Rattle.scheduling.proofs.asking.find.Tie as tie
 
@@ -48,7 +49,7 @@ hold-server-requires c κs =
     let p = k .before .before .before .before .before .before .before .before .before .before .before .pre in (
       ok k,
       c .before .before .before .before .before .loop-test .taken,
-      asking-curve (table k) (ok k) (k .before .before .before .before .before .before .before .before .before .before .before .args .tick) _ (k .loop .free) (k .loop .n) (k .loop .i) (v .0) (omega (arith, p .1, k .before .before .before .put .ensures .same)),
+      freed-curve (table k) (ok k) _ (k .loop .free) (k .loop .n) (k .loop .i) (v .0 .freed) (omega (arith, p .1, k .before .before .before .put .ensures .same)),
       omega (arith, p .2, v .1),
       omega (arith, p .3, v .2),
       omega (arith, p .4, v .3),
@@ -59,7 +60,7 @@ hold-server-requires c κs =
 held-so : (c : tie.After-hold-server Inv-loop μ-loop) → Wrote (c .before .before .before .before .before .before .before .loop .held) (c .hold-server .last .1 .1 .1 .1 .1 .1 .0) (c .hold-server .result .held) (heldOf (table (c .before .before .before .before .before .before .before)) (c .before .before .before .before .before .before .before .loop .i))
 held-so c =
     let k = c .before .before .before .before .before .before .before in
-    asking-held (table k) (ok k) (k .before .before .before .before .before .before .before .before .before .before .before .args .tick) _ (k .loop .free) (k .loop .n) (k .loop .i) (k .loop .inv .0) (c .hold-server .ensures .0)
+    freed-held (table k) (ok k) _ (k .loop .free) (k .loop .n) (k .loop .i) (k .loop .inv .0 .freed) (c .hold-server .ensures .0)
 
 slice-reshare-prefix-covers : tie.Need-slice-reshare-prefix-covers Inv-loop μ-loop
 slice-reshare-prefix-covers c = c .before .before .before .before .before .before .before .before .before .before .hold-server .ensures .0 .count
@@ -94,7 +95,7 @@ runner-on-requires c κs =
     )
 
 same-length : tie.Need-same-length Inv-loop μ-loop
-same-length c = c .before .before .before .before .before .before .before .before .before .before .before .before .before .before .before .before .before .before .before .before .before .before .before .before .before .before .before .before .before .hold-server .ensures .1 .same ∙ c .before .before .before .before .before .before .before .before .before .before .before .before .before .before .before .before .before .before .before .before .before .before .before .before .before .before .before .before .before .before .before .before .before .before .before .before .loop .inv .0 .written .same ∙ c .before .before .before .before .before .before .before .before .before .before .before .before .before .before .before .before .before .before .before .before .before .before .before .before .before .before .before .before .before .before .before .before .before .before .before .before .before .before .before .put .ensures .same
+same-length c = c .before .before .before .before .before .before .before .before .before .before .before .before .before .before .before .before .before .before .before .before .before .before .before .before .before .before .before .before .before .hold-server .ensures .1 .same ∙ c .before .before .before .before .before .before .before .before .before .before .before .before .before .before .before .before .before .before .before .before .before .before .before .before .before .before .before .before .before .before .before .before .before .before .before .before .loop .inv .0 .freed .written .same ∙ c .before .before .before .before .before .before .before .before .before .before .before .before .before .before .before .before .before .before .before .before .before .before .before .before .before .before .before .before .before .before .before .before .before .before .before .before .before .before .before .put .ensures .same
 
 same-length-2 : tie.Need-same-length-2 Inv-loop μ-loop
 same-length-2 c = c .before .before .before .before .before .before .before .before .before .before .runner-on .ensures .5 ∙ c .before .before .before .before .before .before .before .before .before .before .before .before .before .before .before .before .before .before .before .before .before .before .before .before .before .before .before .before .before .hold-server .ensures .2 ∙ c .before .before .before .before .before .before .before .before .before .before .before .before .before .before .before .before .before .before .before .before .before .before .before .before .before .before .before .before .before .before .before .before .before .before .before .before .loop .inv .1
@@ -172,7 +173,7 @@ returns-2 c =
     let k = c .before in
     let v = k .loop .inv in
     let f = asking-ends (table k) (ok k) (k .before .before .before .before .before .before .before .before .before .before .before .args .tick) _ (k .loop .free) (k .loop .n) (k .loop .i) (v .0) (c .loop-test .left) in
-    (f .0, f .1, v .0 .written .same ∙ k .before .before .before .put .ensures .same, v .1, v .2, v .3, v .4, v .5)
+    (f .0, f .1, v .0 .freed .written .same ∙ k .before .before .before .put .ensures .same, v .1, v .2, v .3, v .4, v .5)
 
 pub find-spec : {M : Type 1} → statement M
 find-spec =

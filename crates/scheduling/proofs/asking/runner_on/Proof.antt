@@ -11,7 +11,8 @@ use Rattle.machine.specs.Machine.{taskAt}
 use Rattle.machine.proofs.Obeyed.{tasks-most, span-some, span-most}
 use Rattle.scheduling.specs.Walks.{runnerOn}
 use Rattle.scheduling.proofs.Sums.{task-obeyed}
-use Rattle.scheduling.proofs.Runners.{at-place, Walked, walked-none, walked-curve, walked-all, walked-other, walked-here, walked-next}
+use Rattle.scheduling.proofs.LeftTicks.{left-curve}
+use Rattle.scheduling.proofs.Runners.{at-place, Walked, walked-none, walked-all, walked-other, walked-here, walked-next}
 use Rattle.scheduling.proofs.asking.runner_on.Statement.{statement}
 use Rattle.scheduling.proofs.asking.runner_on.Tie as tie
 
@@ -63,7 +64,7 @@ share-requires c κs =
       task-obeyed (s .args .t1) ok (c .before .before .before .before .before .before .before .before .before .loop .j) (c .before .before .before .before .before .before .before .before .loop-test .taken),
       span-some (s .args .t1) ok,
       span-most (s .args .t1) ok,
-      walked-curve (inv .0) ok (placed s .0) (omega (arith, inv .1, p .4)),
+      left-curve (inv .0 .left) ok (placed s .0) (omega (arith, inv .1, p .4)),
       omega (arith, inv .2, p .5),
       omega (arith, inv .3, p .6),
       omega (arith, inv .4, p .7),

@@ -1,0 +1,78 @@
+-- The analysis: how long its lists are, and what it says of the machine's run. Assumes nothing.
+use Prim.Native.Nat.{ℕ, _≤_, _<_}
+use mathlib.Core.Path.{_≡_, refl, sym, ap, subst}
+use mathlib.Core.List.{List}
+use mathlib.Core.Bool.{true}
+use native.Mathlib.Omega.{arith}
+use lib.ListN.{length, getD, length-replicate}
+use Rattle.table.specs.declared.Table.{Table}
+use Rattle.machine.specs.Parts.{Obeyed}
+use Rattle.machine.proofs.Obeyed.{servers-most, tasks-most}
+use Rattle.reading.specs.Reading.{numberOf, readingOf}
+use Rattle.reading.specs.declared.Answer.{Answer}
+use Rattle.reading.specs.declared.Answer.the-variants.{Accepted, Refused}
+use Rattle.answers.specs.Answers.{serverAnswer, taskAnswer, noServerAnswer, noTaskAnswer}
+use Rattle.answers.specs.Jobs.{ServerSays, TaskSays}
+use Rattle.answers.specs.declared.Analysis.{Analysis}
+use Rattle.answers.specs.declared.ServerAnswer.{ServerAnswer}
+use Rattle.answers.specs.declared.TaskAnswer.{TaskAnswer}
+use Rattle.answers.proofs.Entries.{entries-length, entry-is}
+use Rattle.answers.proofs.Saying.{server-says, task-says}
+use Rattle.scheduling.specs.Buffers.{answerBy}
+use Rattle.scheduling.specs.Analysing.{notAnalysed, analysed, analysisOf, Says}
+use Rattle.scheduling.proofs.Calls.{accepted-obeyed}
+
+-- ---- sizes
+
+pub record Sized (a : Analysis) : Type 0 where
+  pub servers-most : a .«servers_n» ≤ 16
+  pub servers-length : length (a .servers) ≡ 16
+  pub tasks-most : a .«tasks_n» ≤ 64
+  pub tasks-length : length (a .tasks) ≡ 64
+
+refused-sized : (number line : ℕ) → Sized (notAnalysed number line)
+refused-sized number line = record {
+  servers-most = omega arith;
+  servers-length = length-replicate 16 noServerAnswer;
+  tasks-most = omega arith;
+  tasks-length = length-replicate 64 noTaskAnswer;
+}
+
+answered-sized : (table : Table) → Obeyed table → Sized (analysed table)
+answered-sized table ok = record {
+  servers-most = servers-most table ok;
+  servers-length = entries-length (serverAnswer table) noServerAnswer (table .«servers_n») 16 0;
+  tasks-most = tasks-most table ok;
+  tasks-length = entries-length (taskAnswer table) noTaskAnswer (table .«tasks_n») 64 0;
+}
+
+pub analysis-sized : (text : List ℕ) → Sized (analysisOf text true)
+analysis-sized text = go (readingOf text .answer) refl
+  where
+    go : (x : Answer) → readingOf text .answer ≡ x → Sized (answerBy notAnalysed analysed x (readingOf text .table))
+    go Accepted e = answered-sized (readingOf text .table) (accepted-obeyed text e)
+    go (Refused fault) e = refused-sized (numberOf (fault .what)) (fault .line)
+
+-- ---- what it says of the machine
+
+module _ (table : Table) (ok : Obeyed table) where
+  server-entry : (i : ℕ) → i < table .«servers_n» → ServerSays table i (getD (analysed table .servers) i noServerAnswer)
+  server-entry i h =
+      subst (λ (a : ServerAnswer). ServerSays table i a)
+      (sym (entry-is (serverAnswer table) noServerAnswer (table .«servers_n») 16 i (omega (arith, servers-most table ok)) h))
+      (server-says table ok i h)
+
+  task-entry : (k : ℕ) → k < table .«tasks_n» → TaskSays table k (getD (analysed table .tasks) k noTaskAnswer .response)
+  task-entry k h =
+      subst (λ (a : TaskAnswer). TaskSays table k (a .response))
+      (sym (entry-is (taskAnswer table) noTaskAnswer (table .«tasks_n») 64 k (omega (arith, tasks-most table ok)) h))
+      (task-says table ok k h)
+
+  analysed-says : Says table (analysed table)
+  analysed-says = record { span = refl; servers-count = refl; tasks-count = refl; of-server = server-entry; of-task = task-entry }
+
+-- demand 3, its second half: for every accepted text, with room enough, the answers are those of the machine's run
+pub analysis-is-machine : (text : List ℕ) → readingOf text .answer ≡ Accepted → Says (readingOf text .table) (analysisOf text true)
+analysis-is-machine text e =
+    let same : analysisOf text true ≡ analysed (readingOf text .table) = rw e in
+    rw same (analysed-says (readingOf text .table) (accepted-obeyed text e))
