@@ -4,3 +4,4 @@ pub mod Numbers
 pub mod Puts
 pub mod Signs
 pub mod Reported
+pub mod Examples

@@ -1,3 +1,4 @@
 pub mod Puts
 pub mod Report
 pub mod Reporting
+pub mod Examples

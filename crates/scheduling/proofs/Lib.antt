@@ -25,7 +25,6 @@ pub mod Outcomes
 pub mod Asked
 pub mod Noting
 pub mod Analyses
-pub mod Margins
 pub mod PassedWindows
 pub mod JobsAhead
 pub mod Instants

@@ -1,3 +1,4 @@
 pub mod Divisors
 pub mod Entries
 pub mod Spans
+pub mod Differences

@@ -1,12 +1,13 @@
 -- `scheduling::judging::ended` meets its contract.
 use mathlib.Core.Path.{_≡_, ap, _∙_}
+use native.Mathlib.Omega.{arith}
 use borrow.Author.Needs.{needs}
 use lib.IntN.{ℤ}
 use mir.Syntax.{w32}
 use mir.Val.{toZ, ofZ}
 use mir.Facts.{toZ-ofZ}
 use Rattle.answers.specs.Answers.{marginOf}
-use Rattle.scheduling.proofs.Margins.{difference-fits}
+use Rattle.table.proofs.Differences.{difference-fits}
 use Rattle.scheduling.proofs.judging.ended.Statement.{statement}
 use Rattle.scheduling.proofs.judging.ended.Tie as tie
 
@@ -15,8 +16,9 @@ held : (c : tie.After-margin)
     → let a = c .before .before .args in
     toZ w32 (ofZ w32 (c .margin .result)) ≡ marginOf (a .deadline) (a .worst .response)
 held c =
+    let a = c .before .before .args in
     let p = c .before .before .pre in
-    ap (λ (z : ℤ). toZ w32 (ofZ w32 z)) (c .margin .ensures) ∙ toZ-ofZ (difference-fits _ _ (p .0) (p .1))
+    ap (λ (z : ℤ). toZ w32 (ofZ w32 z)) (c .margin .ensures) ∙ toZ-ofZ (difference-fits (a .deadline) (a .worst .response) (omega (arith, p .0)) (omega (arith, p .1)))
 
 margin-requires : tie.Need-margin-requires
 margin-requires c κs = search needs

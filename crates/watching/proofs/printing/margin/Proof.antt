@@ -6,7 +6,7 @@ use lib.IntN.{pos, natAbs, _-ℤ_}
 use mir.Syntax.{w32}
 use mir.Val.{toZ}
 use mir.Facts.{toZ-pos, toZ-ofZ}
-use Rattle.watching.proofs.Margins.{difference-size, size-fits}
+use Rattle.table.proofs.Differences.{difference-size, size-fits}
 use borrow.Author.Needs.{needs}
 use Rattle.watching.proofs.printing.margin.Statement.{statement}
 use Rattle.watching.proofs.printing.margin.Tie as tie

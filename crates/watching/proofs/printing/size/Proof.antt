@@ -6,7 +6,8 @@ use lib.IntN.{pos, natAbs, _-ℤ_}
 use mir.Syntax.{w32}
 use mir.Val.{toZ, ofZ}
 use mir.Facts.{toZ-ofZ}
-use Rattle.watching.proofs.Margins.{size-fits, below-size, above-size}
+use Rattle.table.proofs.Differences.{size-fits}
+use Rattle.watching.proofs.Margins.{below-size, above-size}
 use borrow.Author.Needs.{needs}
 use Rattle.watching.proofs.printing.size.Statement.{statement}
 use Rattle.watching.proofs.printing.size.Tie as tie

@@ -1,0 +1,61 @@
+-- Document 01: the printed report of table A, and those of tables B and C (examples 11 and 12), to the byte.
+use Prim.Native.Nat.{ℕ}
+use mathlib.Core.Path.{_≡_}
+use mathlib.Core.List.{List, [], _∷_}
+use lib.IntN.{pos, negsuc}
+use Rattle.machine.specs.Examples.{tableA, tableB, tableC}
+use Rattle.scheduling.specs.Analysing.{analysed, notAnalysed}
+use Rattle.reporting.specs.Report.{decimal, signed, reportOf}
+
+-- span 40
+-- server 1 4 -
+-- server 2 10 -
+-- task 1 worst 1 0 3
+-- task 2 worst 3 35 2
+-- task 3 worst 7 0 1
+abbrev pub printedA : List ℕ
+printedA =
+    115 ∷ 112 ∷ 97 ∷ 110 ∷ 9 ∷ 52 ∷ 48 ∷ 10
+    ∷ 115 ∷ 101 ∷ 114 ∷ 118 ∷ 101 ∷ 114 ∷ 9 ∷ 49 ∷ 9 ∷ 52 ∷ 9 ∷ 45 ∷ 10
+    ∷ 115 ∷ 101 ∷ 114 ∷ 118 ∷ 101 ∷ 114 ∷ 9 ∷ 50 ∷ 9 ∷ 49 ∷ 48 ∷ 9 ∷ 45 ∷ 10
+    ∷ 116 ∷ 97 ∷ 115 ∷ 107 ∷ 9 ∷ 49 ∷ 9 ∷ 119 ∷ 111 ∷ 114 ∷ 115 ∷ 116 ∷ 9 ∷ 49 ∷ 9 ∷ 48 ∷ 9 ∷ 51 ∷ 10
+    ∷ 116 ∷ 97 ∷ 115 ∷ 107 ∷ 9 ∷ 50 ∷ 9 ∷ 119 ∷ 111 ∷ 114 ∷ 115 ∷ 116 ∷ 9 ∷ 51 ∷ 9 ∷ 51 ∷ 53 ∷ 9 ∷ 50 ∷ 10
+    ∷ 116 ∷ 97 ∷ 115 ∷ 107 ∷ 9 ∷ 51 ∷ 9 ∷ 119 ∷ 111 ∷ 114 ∷ 115 ∷ 116 ∷ 9 ∷ 55 ∷ 9 ∷ 48 ∷ 9 ∷ 49 ∷ 10 ∷ []
+
+-- span 8
+-- server 1 1 -
+-- server 2 2 1
+-- task 1 worst 4 3 1
+-- task 2 worst 4 4 0
+abbrev pub printedB : List ℕ
+printedB =
+    115 ∷ 112 ∷ 97 ∷ 110 ∷ 9 ∷ 56 ∷ 10
+    ∷ 115 ∷ 101 ∷ 114 ∷ 118 ∷ 101 ∷ 114 ∷ 9 ∷ 49 ∷ 9 ∷ 49 ∷ 9 ∷ 45 ∷ 10
+    ∷ 115 ∷ 101 ∷ 114 ∷ 118 ∷ 101 ∷ 114 ∷ 9 ∷ 50 ∷ 9 ∷ 50 ∷ 9 ∷ 49 ∷ 10
+    ∷ 116 ∷ 97 ∷ 115 ∷ 107 ∷ 9 ∷ 49 ∷ 9 ∷ 119 ∷ 111 ∷ 114 ∷ 115 ∷ 116 ∷ 9 ∷ 52 ∷ 9 ∷ 51 ∷ 9 ∷ 49 ∷ 10
+    ∷ 116 ∷ 97 ∷ 115 ∷ 107 ∷ 9 ∷ 50 ∷ 9 ∷ 119 ∷ 111 ∷ 114 ∷ 115 ∷ 116 ∷ 9 ∷ 52 ∷ 9 ∷ 52 ∷ 9 ∷ 48 ∷ 10 ∷ []
+
+-- span 8
+-- server 1 1 -
+-- server 2 2 -
+-- task 1 worst 4 3 1
+-- task 2 worst 3 0 -1
+abbrev pub printedC : List ℕ
+printedC =
+    115 ∷ 112 ∷ 97 ∷ 110 ∷ 9 ∷ 56 ∷ 10
+    ∷ 115 ∷ 101 ∷ 114 ∷ 118 ∷ 101 ∷ 114 ∷ 9 ∷ 49 ∷ 9 ∷ 49 ∷ 9 ∷ 45 ∷ 10
+    ∷ 115 ∷ 101 ∷ 114 ∷ 118 ∷ 101 ∷ 114 ∷ 9 ∷ 50 ∷ 9 ∷ 50 ∷ 9 ∷ 45 ∷ 10
+    ∷ 116 ∷ 97 ∷ 115 ∷ 107 ∷ 9 ∷ 49 ∷ 9 ∷ 119 ∷ 111 ∷ 114 ∷ 115 ∷ 116 ∷ 9 ∷ 52 ∷ 9 ∷ 51 ∷ 9 ∷ 49 ∷ 10
+    ∷ 116 ∷ 97 ∷ 115 ∷ 107 ∷ 9 ∷ 50 ∷ 9 ∷ 119 ∷ 111 ∷ 114 ∷ 115 ∷ 116 ∷ 9 ∷ 51 ∷ 9 ∷ 48 ∷ 9 ∷ 45 ∷ 49 ∷ 10 ∷ []
+
+pub record Checked : Type 0 where
+  pub table-a : reportOf (analysed tableA) ≡ printedA
+  pub table-b : reportOf (analysed tableB) ≡ printedB
+  pub table-c : reportOf (analysed tableC) ≡ printedC
+  -- refused 5 3
+  pub refused : reportOf (notAnalysed 5 3) ≡ 114 ∷ 101 ∷ 102 ∷ 117 ∷ 115 ∷ 101 ∷ 100 ∷ 9 ∷ 53 ∷ 9 ∷ 51 ∷ 10 ∷ []
+  -- 0, 10 and 16000
+  pub numbers : (decimal 0 ≡ 48 ∷ []) × (decimal 10 ≡ 49 ∷ 48 ∷ []) × (decimal 16000 ≡ 49 ∷ 54 ∷ 48 ∷ 48 ∷ 48 ∷ [])
+  -- 0, 15999 and -15999, each behind a tab
+  pub margins : (signed (pos 0) ≡ 9 ∷ 48 ∷ []) × (signed (pos 15999) ≡ 9 ∷ 49 ∷ 53 ∷ 57 ∷ 57 ∷ 57 ∷ [])
+      × (signed (negsuc 15998) ≡ 9 ∷ 45 ∷ 49 ∷ 53 ∷ 57 ∷ 57 ∷ 57 ∷ [])
