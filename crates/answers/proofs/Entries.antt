@@ -37,3 +37,9 @@ module _ {A : Type 0} (f : ℕ → A) (empty : A) (count : ℕ) where
       let z : i + 0 ≡ i = omega arith in
       let s : (u : ℕ) → i + suc u ≡ suc i + u = λ u. omega arith in
       ap₂ _∷_ (rw z at (e 0)) (entries-are l (suc i) (λ u. rw (s u) at (e (suc u))))
+
+-- inside a list the entry does not depend on what is read beyond it
+pub inside-any : {A : Type 0} (l : List A) (i : ℕ) (d e : A) → i < length l → getD l i d ≡ getD l i e
+inside-any [] i d e h = absurd (omega arith)
+inside-any (x ∷ l) zero d e h = refl
+inside-any (x ∷ l) (suc i) d e h = inside-any l i d e (omega arith)

@@ -2,6 +2,7 @@
 // `n` bytes wait at the front of `out` until it is full, and are then written to standard output at once. Each function that puts answers
 // how many bytes wait after it.
 pub mod decoding;
+pub mod numbers;
 
 ghost use Prim.Native.Nat.{_≤_, _<_};
 ghost use lib.ListN.{length};

@@ -12,15 +12,15 @@ use batch::INPUT;
 use batch::ends;
 use batch::flush;
 use batch::next_line;
+use batch::numbers::next_number;
+use batch::numbers::read_number;
 use batch::put_bad;
 use batch::read_lines;
 use printing::put_fitted;
 use printing::put_provided;
 use printing::put_written;
 use reading::lend_room;
-use reading::next_number;
 use reading::read_curve;
-use reading::read_number;
 
 // The most numbers that a curve or a lent buffer may have.
 const MOST: usize = 4096;

@@ -1,69 +1,14 @@
-// Reading a line: decimal numbers parted by single spaces, and a line feed behind the last. Where what is asked for does not stand at a
+// Reading a line: numbers and curves, parted by single spaces, and a line feed behind the last. Where what is asked for does not stand at a
 // place, the place behind it is the end of the text: nothing more is read there, and no line ends there.
-ghost use Prim.Native.Nat.{_≤_, _<_};
+use batch::numbers::next_number;
+ghost use Prim.Native.Nat.{_≤_};
 ghost use lib.ListN.{length};
 ghost use Rattle.io.specs.Counts.{Counts};
-
-// A number that was read, and the place behind it.
-pub struct Number {
-    pub value: u32,
-    pub behind: usize,
-}
 
 // How many numbers a curve or a lent buffer has, and the place behind what was read.
 pub struct Size {
     pub count: usize,
     pub behind: usize,
-}
-
-// A digit's value as a wider number.
-fn wide(digit: u8) -> u64
-    ensures { λ r. ⌜ r < 256 ⌝ }
-{
-    digit as u64
-}
-
-// What is read where no number stands.
-fn no_number(text: &[u8]) -> Number {
-    Number {
-        value: 0,
-        behind: text.len(),
-    }
-}
-
-// Reads the number whose digits start at a place.
-pub fn read_number(text: &[u8], at: usize) -> Number {
-    let mut value: u64 = 0;
-    let mut i = at;
-    while i < text.len() {
-        let digit = text[i];
-        if digit < b'0' || b'9' < digit {
-            break;
-        }
-        value = value * 10 + wide(digit - b'0');
-        if 4294967295 < value {
-            return no_number(text);
-        }
-        i += 1;
-    }
-    if i == at {
-        return no_number(text);
-    }
-    Number {
-        value: value as u32,
-        behind: i,
-    }
-}
-
-// Reads a space and the number behind it.
-pub fn next_number(text: &[u8], at: usize) -> Number {
-    if text.len() <= at {
-        return no_number(text);
-    }
-    if text[at] != b' ' {
-        return no_number(text);
-    }
-    read_number(text, at + 1)
 }
 
 // Reads a space and a length, of `most` numbers at most.

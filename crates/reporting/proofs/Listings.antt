@@ -8,6 +8,7 @@ use lib.ListN.{length, getD}
 use Rattle.answers.specs.Answers.{noServerAnswer, noTaskAnswer}
 use Rattle.answers.specs.declared.ServerAnswer.{ServerAnswer}
 use Rattle.answers.specs.declared.TaskAnswer.{TaskAnswer}
+use Rattle.answers.proofs.Entries.{inside-any}
 use Rattle.reporting.specs.Puts.{Put}
 use Rattle.reporting.specs.Report.{serverLine, taskLine, serverLines, taskLines}
 use Rattle.reporting.proofs.Puts.{put-none, put-more}
@@ -40,12 +41,6 @@ left-next count i h = omega arith
 left-none : (count i : ℕ) → count ≤ i → count - i ≡ 0
 left-none count i h = omega arith
 
--- inside a list the entry does not depend on what is read beyond it
-entry-is : {A : Type 0} (l : List A) (i : ℕ) (d e : A) → i < length l → getD l i d ≡ getD l i e
-entry-is [] i d e h = absurd (omega arith)
-entry-is (x ∷ l) zero d e h = refl
-entry-is (x ∷ l) (suc i) d e h = entry-is l i d e (omega arith)
-
 -- ---- the servers' lines
 
 module _ (answers : List ServerAnswer) (count i : ℕ) {old now all : List ℕ} {n m : ℕ} where
@@ -53,7 +48,7 @@ module _ (answers : List ServerAnswer) (count i : ℕ) {old now all : List ℕ} 
   pub server-put : (d : ServerAnswer) {mid : List ℕ} {k : ℕ} → i < count → i < length answers → Begun old mid n m (serverLines answers (count - i) i) all
       → Put mid now m (serverLine (i + 1) (getD answers i d)) k → Begun old now n k (serverLines answers (count - (i + 1)) (i + 1)) all
   unfolding serverLines
-  server-put d h k b v = rw add-one (begun-next (rw (left-next count i h) at b) (rw (add-one, entry-is answers i d noServerAnswer k) at v))
+  server-put d h k b v = rw add-one (begun-next (rw (left-next count i h) at b) (rw (add-one, inside-any answers i d noServerAnswer k) at v))
 
   -- all are put
   pub servers-put : count ≤ i → Begun old now n m (serverLines answers (count - i) i) all → Put old now n all m
@@ -67,7 +62,7 @@ module _ (answers : List TaskAnswer) (count j : ℕ) {old now all : List ℕ} {n
   pub task-put : (d : TaskAnswer) {mid : List ℕ} {k : ℕ} → j < count → j < length answers → Begun old mid n m (taskLines answers (count - j) j) all
       → Put mid now m (taskLine (j + 1) (getD answers j d)) k → Begun old now n k (taskLines answers (count - (j + 1)) (j + 1)) all
   unfolding taskLines
-  task-put d h k b v = rw add-one (begun-next (rw (left-next count j h) at b) (rw (add-one, entry-is answers j d noTaskAnswer k) at v))
+  task-put d h k b v = rw add-one (begun-next (rw (left-next count j h) at b) (rw (add-one, inside-any answers j d noTaskAnswer k) at v))
 
   -- all are put
   pub tasks-put : count ≤ j → Begun old now n m (taskLines answers (count - j) j) all → Put old now n all m

@@ -27,7 +27,7 @@ pub record Same {A : Type 0} (r q : A) (a b c d e f a′ b′ c′ d′ e′ f�
   pub sixth : f ≡ f′
 
 -- where the answers are equal and give the number, the buffers are equal
-same-all : {A : Type 0} (number : A → ℕ) {r q : A} {a b c d e f a₁ b₁ c₁ d₁ e₁ f₁ a₂ b₂ c₂ d₂ e₂ f₂ : List ℕ} → r ≡ q
+pub same-all : {A : Type 0} (number : A → ℕ) {r q : A} {a b c d e f a₁ b₁ c₁ d₁ e₁ f₁ a₂ b₂ c₂ d₂ e₂ f₂ : List ℕ} → r ≡ q
     → Buffers (number r) a b c d e f a₁ b₁ c₁ d₁ e₁ f₁ → Buffers (number q) a b c d e f a₂ b₂ c₂ d₂ e₂ f₂ → Same r q a₁ b₁ c₁ d₁ e₁ f₁ a₂ b₂ c₂ d₂ e₂ f₂
 same-all number p v w =
     let u = by-number (ap number p) v in

@@ -1,0 +1,94 @@
+-- What a call on a text hands out, by its number and by what reading answers. Assumes nothing.
+use Prim.Native.Nat.{ℕ}
+use mathlib.Core.Path.{_≡_, refl, sym, ap, _∙_}
+use mathlib.Core.List.{List}
+use mathlib.Core.Bool.{Bool, true, false}
+use native.Mathlib.Omega.{arith}
+use borrow.Author.Tests.{eq-eqb, ne-eqb}
+use Rattle.table.specs.declared.Table.{Table}
+use Rattle.reading.specs.Reading.{numberOf, readingOf}
+use Rattle.reading.specs.declared.Fault.{Fault}
+use Rattle.reading.specs.declared.Answer.{Answer}
+use Rattle.reading.specs.declared.Answer.the-variants.{Accepted, Refused}
+use Rattle.machine.specs.Machine.{accepts, stepOf}
+use Rattle.machine.specs.declared.State.{State}
+use Rattle.machine.specs.declared.Stepped.{Stepped}
+use Rattle.machine.proofs.Grounds.{step-refused, step-accepted}
+use Rattle.scheduling.proofs.Calls.{number-some}
+use Rattle.exports.specs.Handing.{given, answerNumber, answerLine, stepBy}
+use Rattle.exports.specs.Calls.{Reads, Steps}
+
+-- a refusal: what was there before
+pub given-old : {A : Type 0} (number : ℕ) (new old : A) → ¬ (number ≡ 0) → old ≡ given number new old
+given-old number new old d = rw (ne-eqb number 0 d)
+
+-- no refusal: what the call says
+given-new : {A : Type 0} (number : ℕ) (new old : A) → number ≡ 0 → new ≡ given number new old
+given-new number new old e = rw (eq-eqb number 0 e)
+
+-- a step that is refused hands back the state it got
+pub refused-stays : (table : Table) (s : State) → ¬ (stepOf table s .number ≡ 0) → s ≡ stepOf table s .next
+refused-stays table s d = go (accepts table s) refl
+  where
+    go : (b : Bool) → accepts table s ≡ b → s ≡ stepOf table s .next
+    go true e = absurd (d (ap (λ (t : Stepped). t .number) (step-accepted table s e)))
+    go false e = sym (ap (λ (t : Stepped). t .next) (step-refused table s e))
+
+module _ (text : List ℕ) where
+  -- ---- an accepted text
+
+  abbrev table : Table
+  table = readingOf text .table
+
+  pub reads-accepted : (span servers tasks : ℕ) {r line′ span′ servers′ tasks′ : ℕ} → readingOf text .answer ≡ Accepted
+      → (r ≡ 0) × (line′ ≡ 0) × (span′ ≡ table .span) × (servers′ ≡ table .«servers_n») × (tasks′ ≡ table .«tasks_n»)
+      → Reads text span servers tasks r line′ span′ servers′ tasks′
+  reads-accepted span servers tasks e h =
+      record {
+        number = h .0 ∙ sym (ap answerNumber e);
+        in-line = h .1 ∙ sym (ap answerLine e);
+        ticks = h .2 ∙ given-new _ _ _ (h .0);
+        servers-count = h .3 ∙ given-new _ _ _ (h .0);
+        tasks-count = h .4 ∙ given-new _ _ _ (h .0);
+      }
+
+  pub steps-accepted : (s : State) (holder runner : ℕ) {r line′ holder′ runner′ : ℕ} {after : State} → readingOf text .answer ≡ Accepted
+      → (r ≡ stepOf table s .number) × (line′ ≡ stepOf table s .line) × (after ≡ stepOf table s .next)
+      × (holder′ ≡ given r (stepOf table s .holder) holder) × (runner′ ≡ given r (stepOf table s .runner) runner)
+      → Steps text s holder runner r line′ after holder′ runner′
+  steps-accepted s holder runner {r} e h =
+      let same = sym (ap (λ (a : Answer). stepBy a table s) e) in
+      record {
+        number = h .0 ∙ ap (λ (t : Stepped). t .number) same;
+        in-line = h .1 ∙ ap (λ (t : Stepped). t .line) same;
+        next = h .2 ∙ ap (λ (t : Stepped). t .next) same;
+        holds = h .3 ∙ ap (λ (t : Stepped). given r (t .holder) holder) same;
+        runs = h .4 ∙ ap (λ (t : Stepped). given r (t .runner) runner) same;
+      }
+
+  -- ---- a refused text
+
+  module _ (fault : Fault) (refused : readingOf text .answer ≡ Refused fault) {r line′ : ℕ} (told : (r ≡ numberOf (fault .what)) × (line′ ≡ fault .line)) where
+    some : ¬ (r ≡ 0)
+    some z = absurd (omega (arith, z, told .0, number-some (fault .what)))
+
+    pub reads-refused : (span servers tasks : ℕ) → Reads text span servers tasks r line′ span servers tasks
+    reads-refused span servers tasks =
+        record {
+          number = told .0 ∙ sym (ap answerNumber refused);
+          in-line = told .1 ∙ sym (ap answerLine refused);
+          ticks = given-old _ _ _ some;
+          servers-count = given-old _ _ _ some;
+          tasks-count = given-old _ _ _ some;
+        }
+
+    pub steps-refused : (s : State) (holder runner : ℕ) → Steps text s holder runner r line′ s holder runner
+    steps-refused s holder runner =
+        let same = sym (ap (λ (a : Answer). stepBy a table s) refused) in
+        record {
+          number = told .0 ∙ ap (λ (t : Stepped). t .number) same;
+          in-line = told .1 ∙ ap (λ (t : Stepped). t .line) same;
+          next = ap (λ (t : Stepped). t .next) same;
+          holds = given-old _ _ _ some;
+          runs = given-old _ _ _ some;
+        }
