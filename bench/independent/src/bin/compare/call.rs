@@ -1,0 +1,47 @@
+//! What the comparison needs to know of a call, whichever program it is for.
+
+pub trait Call: Clone + Send + Sync {
+    /// The proved program that answers such calls.
+    const PROGRAM: &'static str;
+    /// The names of the kinds of calls.
+    const KINDS: &'static [&'static str];
+
+    /// Which of the kinds it is.
+    fn kind(&self) -> usize;
+
+    /// Writes the line that the program reads.
+    fn put_line(&self, line: &mut Vec<u8>);
+
+    /// Writes what the program has to answer, and says on which ground the call is refused, 0 if it is accepted.
+    fn put_answer(&self, answer: &mut Vec<u8>) -> u32;
+
+    /// Calls of the same kind that are a little smaller, the smallest first: a call that shows a difference is shrunk by them.
+    fn smaller(&self) -> Vec<Self>;
+
+    /// The table's text, for calls that have one.
+    fn text(&self) -> Option<&[u8]>;
+}
+
+/// Smaller values to try in the place of a number.
+pub fn smaller_numbers(number: u32) -> Vec<u32> {
+    let mut numbers = vec![0, 1, number / 4, number / 2, number - number / 4];
+    numbers.extend([8, 4, 2, 1].map(|by| number.saturating_sub(by)));
+    numbers.retain(|&smaller| smaller < number);
+    numbers.sort_unstable();
+    numbers.dedup();
+    numbers
+}
+
+/// Shorter lists to try in the place of a list: without parts of half its length, of a quarter, and so on down to single items.
+pub fn shorter_lists<T: Clone>(list: &[T]) -> Vec<Vec<T>> {
+    let mut lists = Vec::new();
+    let mut part = list.len().div_ceil(2);
+    while part > 0 {
+        for start in (0..list.len()).step_by(part) {
+            let end = (start + part).min(list.len());
+            lists.push([&list[..start], &list[end..]].concat());
+        }
+        part /= 2;
+    }
+    lists
+}

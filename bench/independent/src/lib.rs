@@ -1,0 +1,25 @@
+//! A second implementation of the analysis, besides the proved one. Its only ground is the scope document; it shares nothing with the
+//! proved code, and nothing in it is proved. Everything is done in the plainest way: time goes tick by tick, curves are lists of
+//! ticks. It says what the proved programs are expected to print, so that the two can be compared (`compare`).
+
+pub mod analysis;
+pub mod curves;
+pub mod machine;
+pub mod reading;
+pub mod report;
+
+/// Why a call is turned away: the ground's number, the line in the text (0 where no line is meant) and the field's place in
+/// that line, counted from 1 (0 where no field is meant).
+#[derive(Clone, Copy, Debug, PartialEq, Eq)]
+pub struct Refusal {
+    pub number: u32,
+    pub line: u32,
+    pub place: u32,
+}
+
+impl Refusal {
+    /// A ground that means no line and no field.
+    pub fn plain(number: u32) -> Refusal {
+        Refusal { number, line: 0, place: 0 }
+    }
+}

@@ -1,0 +1,121 @@
+//! The scope document's checked examples and edges. The wrong build fails some of them.
+
+use independent::analysis::{analyse, who_at};
+use independent::curves;
+use independent::reading::read;
+use independent::report::report;
+use independent::Refusal;
+
+/// A table's text, written with spaces for tabs and `/` for line feeds.
+fn text(shown: &str) -> Vec<u8> {
+    shown.replace(' ', "\t").replace('/', "\n").into_bytes()
+}
+
+fn reported(shown: &str) -> String {
+    String::from_utf8(report(&text(shown))).unwrap().replace('\t', " ").replace('\n', "/")
+}
+
+/// The number and the line of a refused text.
+fn refused(shown: &str) -> (u32, u32) {
+    let refusal = read(&text(shown)).unwrap_err();
+    (refusal.number, refusal.line)
+}
+
+#[test]
+fn adding() {
+    assert_eq!(curves::added(&[0, 2, 8, 9], &[0, 1, 5, 6, 8, 10]), Ok(vec![0, 3, 5, 6, 8, 11]));
+    assert_eq!(curves::added(&[0, 2], &[0, 2]), Ok(vec![0, 4]));
+    assert_eq!(curves::added(&[0, 2], &[2, 4]), Ok(vec![0, 4]));
+    assert_eq!(curves::added(&[], &[]), Ok(vec![]));
+    assert_eq!(curves::added(&[0, 1_000_000], &[5, 6]), Err(11));
+    assert_eq!(curves::added(&[0, 1_000_001], &[]), Err(10));
+}
+
+#[test]
+fn cutting() {
+    assert_eq!(curves::parted(5, &[3, 12]), Ok(vec![3, 5, 5, 10, 10, 12]));
+    assert_eq!(curves::parted(0, &[1]), Err(12));
+    assert_eq!(curves::parted(1, &[1]), Err(10));
+}
+
+#[test]
+fn fitting() {
+    let fitted = curves::fitted(&[2, 4, 14, 17, 22, 24], &[0, 5, 12, 15, 22, 24, 30, 35]).ok().unwrap();
+    assert_eq!(fitted.served, [2, 4, 14, 15, 22, 24, 30, 32]);
+    assert_eq!(fitted.supply_left, [0, 2, 4, 5, 12, 14, 32, 35]);
+    assert_eq!(fitted.demand_left, []);
+    let fitted = curves::fitted(&[0, 2, 3, 5], &[10, 20]).ok().unwrap();
+    assert_eq!(fitted.served, [10, 14]);
+    let fitted = curves::fitted(&[5, 6], &[0, 5]).ok().unwrap();
+    assert_eq!((fitted.supply_left, fitted.served, fitted.demand_left), (vec![0, 5], vec![], vec![5, 6]));
+}
+
+#[test]
+fn providing() {
+    assert_eq!(curves::time_to_provide(2, &[1, 3, 5, 7]), Ok(Some(3)));
+    assert_eq!(curves::time_to_provide(5, &[1, 3, 5, 7]), Ok(None));
+}
+
+#[test]
+fn rooms() {
+    let mut room = [7, 8, 9];
+    assert_eq!(curves::add(&[0, 1], &[4, 5], &mut room), Err(11));
+    assert_eq!(room, [7, 8, 9]);
+    assert_eq!(curves::add(&[0, 1], &[1, 5], &mut room), Ok(2));
+    assert_eq!(room, [0, 5, 9]);
+}
+
+#[test]
+fn table_a() {
+    let table = "span -/server deferrable 3 10/server deferrable 2 4/every 1 1 0 4 -/every 2 1 0 5 -/every 2 2 0 8 -/";
+    let expected = "span 40/server 1 4 -/server 2 10 -/task 1 worst 1 0 3/task 2 worst 3 35 2/task 3 worst 7 0 1/";
+    assert_eq!(reported(table), expected);
+}
+
+#[test]
+fn table_b() {
+    let table = "span 8/server deferrable 2 5/server deferrable 2 4/once 1 4 3 5/every 2 1 0 4 4/";
+    assert_eq!(reported(table), "span 8/server 1 1 -/server 2 2 1/task 1 worst 4 3 1/task 2 worst 4 4 0/");
+}
+
+#[test]
+fn table_c() {
+    let table = "span 8/server periodic 2 6/server deferrable 1 3/once 1 1 3 5/once 2 1 0 2/";
+    assert!(reported(table).ends_with("task 1 worst 4 3 1/task 2 worst 3 0 -1/"));
+}
+
+#[test]
+fn table_d() {
+    let table = "span -/server deferrable 3 10/server deferrable 2 6/every 1 6 0 22 -/every 2 100 0 400 -/";
+    let printed = reported(table);
+    assert!(printed.starts_with("span 13200/"));
+    assert!(printed.contains("task 2 worst 308 9200 92/"));
+}
+
+#[test]
+fn edges_of_reading() {
+    let rest = "/server periodic 1 125/every 1 1 0 128 -/";
+    assert_eq!(read(&text(&format!("span -{rest}"))).unwrap().span, 16_000);
+    assert_eq!(read(&text(&format!("span 16000{rest}"))).unwrap().span, 16_000);
+    assert_eq!(refused(&format!("span 16001{rest}")), (6, 1));
+    assert_eq!(refused(&format!("span 016{rest}")), (5, 1));
+    assert_eq!(refused("span -/server periodic 1 126/every 1 1 0 127 -/"), (8, 0));
+    assert_eq!(refused("span 9/server periodic 1 2/"), (3, 3));
+    assert_eq!(refused("span 9/once 1 1 1 1/"), (3, 2));
+    assert_eq!(refused("/"), (3, 1));
+    assert_eq!(refused(""), (2, 0));
+    assert_eq!(refused(&"a".repeat(4097)), (1, 0));
+    assert_eq!(refused(&"a".repeat(4096)), (2, 0));
+}
+
+#[test]
+fn order_of_refusals() {
+    let table = text("span 8/server periodic 2 6/once 1 1 3 5/");
+    let enough = [16_000; 6];
+    let mut short = enough;
+    short[5] -= 1;
+    assert_eq!(analyse(b"", &short), Err(Refusal::plain(9)));
+    assert_eq!(analyse(b"", &enough), Err(Refusal::plain(2)));
+    assert_eq!(who_at(&table, 8, &enough), Err(Refusal::plain(13)));
+    assert!(who_at(&table, 7, &enough).is_ok());
+}

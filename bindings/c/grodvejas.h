@@ -1,0 +1,88 @@
+/* Grodvejas for programs in C: who runs in every tick of a table, each task's worst response, and the report.
+ *
+ * Every call may be handed anything: any bytes, any numbers, any lengths. It ends, and answers 0, or the number of its refusal (below). A refused
+ * call changes nothing that was lent or handed in, but for `*line` where the call has one: there stands the line of the text that is refused, counted
+ * from 1, and 0 where no line is meant. An accepted call writes 0 there.
+ *
+ * Pointers are never null, point to as many elements as the length behind them or the array size says, and no two of them overlap, save that two curves
+ * that are only read may. A buffer of length 0 is allowed (with any pointer that is not null).
+ *
+ * Numbers of refusals: 1 text over 4,096 bytes; 2 text empty or not ended by a line feed; 3 first field unknown or in the wrong place, no server, no
+ * task; 4 wrong count of fields; 5 a field is no number, or `-` not allowed, or server kind unknown; 6 number outside its range; 7 a 17th server or a
+ * 65th task; 8 span `-` and the multiple is above 16,000; 9 a work buffer of fewer than 16,000 numbers; 10 a curve of odd length or not plain; 11 the
+ * result needs more room than lent, or ends above 1,000,000; 12 an amount or a period is 0; 13 step: tick, budget or waiting work out of range, or the
+ * tick asked for is at the end of the span or later. */
+#ifndef GRODVEJAS_H
+#define GRODVEJAS_H
+
+#include <stddef.h>
+#include <stdint.h>
+
+#ifdef __cplusplus
+extern "C" {
+#endif
+
+enum {
+    GROD_SERVERS = 16,    /* the most servers that a table has */
+    GROD_TASKS = 64,      /* the most tasks */
+    GROD_ROOM = 16000,    /* the least that a work buffer holds */
+    GROD_REPORT = 4096    /* more bytes than a report has */
+};
+
+/* in `short_period`: no period is short */
+#define GROD_NEVER UINT32_MAX
+
+/* in `kind` */
+enum { GROD_NONE = 0, GROD_WORST = 1, GROD_UNFINISHED = 2 };
+
+/* ---- curves: windows as pairs of numbers, start and end; a window (s, e) covers the ticks s to e - 1 */
+
+/* Adds up two curves: the ticks at which work is done when each tick of either brings one unit. Writes the result to the front of `out`, and how many
+ * numbers it has to `*count`. Refuses 10, 11. */
+uint32_t grod_add(const uint32_t *a, size_t a_n, const uint32_t *b, size_t b_n, uint32_t *out, size_t out_n, size_t *count);
+
+/* Cuts a curve at the multiples of a period. Refuses 12, 10, 11. */
+uint32_t grod_cut(const uint32_t *curve, size_t curve_n, uint32_t period, uint32_t *out, size_t out_n, size_t *count);
+
+/* Fits a demand into a supply: what is left of the supply, what is served, what is left of the demand, each to the front of a buffer of its own.
+ * Refuses 10, 11. */
+uint32_t grod_fit(const uint32_t *demand, size_t demand_n, const uint32_t *supply, size_t supply_n, uint32_t *left, size_t left_room, uint32_t *served,
+                  size_t served_room, uint32_t *rest, size_t rest_room, size_t *left_n, size_t *served_n, size_t *rest_n);
+
+/* Writes the instant at which the curve has given `amount` ticks to `*instant`, or 0 if it gives fewer. Refuses 12, 10. */
+uint32_t grod_time_to_provide(const uint32_t *curve, size_t curve_n, uint32_t amount, uint32_t *instant);
+
+/* ---- tables: a table is handed in as its text */
+
+/* Reads a text: its span (the multiple where it is `-`) and how many servers and tasks it has. Refuses 1 to 8. */
+uint32_t grod_read(const uint8_t *text, size_t text_n, uint32_t *line, uint32_t *span, size_t *servers_n, size_t *tasks_n);
+
+/* Goes one tick on with the machine of a text's table. The state is the tick, each server's budget and each task's waiting work, all 0 before tick 0;
+ * it is handed in and, one tick later, handed out. `*holder` is the server that holds the tick, `*runner` the task that runs in it, 0 for none.
+ * Entries beyond the table's counts are not tested and pass through. Refuses 1 to 8, 13. */
+uint32_t grod_step(const uint8_t *text, size_t text_n, uint32_t *tick, uint32_t budgets[GROD_SERVERS], uint32_t waiting[GROD_TASKS], uint32_t *line,
+                   uint32_t *holder, uint32_t *runner);
+
+/* Who holds a tick of the span and who runs in it, 0 for none, from the curves. Six work buffers of at least GROD_ROOM numbers are lent; every number of
+ * them is 0 after an accepted call. Refuses 9, 1 to 8, 13. */
+uint32_t grod_who_at(const uint8_t *text, size_t text_n, uint32_t tick, uint32_t *free, size_t free_n, uint32_t *sum, size_t sum_n, uint32_t *part,
+                     size_t part_n, uint32_t *held, size_t held_n, uint32_t *running, size_t running_n, uint32_t *spare, size_t spare_n, uint32_t *line,
+                     uint32_t *holder, uint32_t *runner);
+
+/* The answers of all servers and tasks. Of server i (from 0): `full[i]` full periods in the span, `short_period[i]` the first of them, from 0, that has
+ * fewer free ticks than the capacity, or GROD_NEVER. Of task j (from 0): `kind[j]`; if it is GROD_WORST, the response, the release of the first job that
+ * attains it and the margin, deadline minus response, below 0 when late; if it is GROD_UNFINISHED, the release of the first job that has not ended with
+ * the span; else 0. Entries beyond the counts are 0, GROD_NEVER and GROD_NONE. Work buffers as for grod_who_at. Refuses 9, 1 to 8. */
+uint32_t grod_analyse(const uint8_t *text, size_t text_n, uint32_t *free, size_t free_n, uint32_t *sum, size_t sum_n, uint32_t *part, size_t part_n,
+                      uint32_t *held, size_t held_n, uint32_t *running, size_t running_n, uint32_t *spare, size_t spare_n, uint32_t *line, uint32_t *span,
+                      size_t *servers_n, size_t *tasks_n, uint32_t full[GROD_SERVERS], uint32_t short_period[GROD_SERVERS], uint32_t kind[GROD_TASKS],
+                      uint32_t response[GROD_TASKS], uint32_t release[GROD_TASKS], int32_t margin[GROD_TASKS]);
+
+/* Writes the report of a text, as the report program prints it, to the front of `out`, and how many bytes it has to `*count`. The report of a refused text
+ * is the line `refused`, number, line. Takes some 410,000 bytes of stack; the other calls take less than 32,000. Refuses 11, where the report does not fit. */
+uint32_t grod_report(const uint8_t *text, size_t text_n, uint8_t *out, size_t out_n, size_t *count);
+
+#ifdef __cplusplus
+}
+#endif
+#endif

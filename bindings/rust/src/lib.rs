@@ -1,0 +1,65 @@
+//! Who runs in every tick of a table of servers and tasks, each task's worst response, and the report: safe calls to a proved library.
+//!
+//! Any slice and any number may be handed in. A call answers, or it is refused by a [`Refusal`], and then nothing that was lent has changed.
+//!
+//! The library is an archive for x86-64 Linux. Where it was not there when this crate was built, [`AVAILABLE`] is false and every call answers
+//! [`Refusal::UNAVAILABLE`].
+//!
+//! ```
+//! # if !grodvejas::AVAILABLE { return; }
+//! let text = b"span\t8\nserver\tdeferrable\t2\t5\nonce\t1\t4\t3\t9\n";
+//! let mut room = grodvejas::Room::new();
+//! let answers = grodvejas::analyse(text, room.lend()).unwrap();
+//! assert_eq!(answers.tasks[0], grodvejas::Response::Worst { response: 4, release: 3, margin: 5 });
+//! ```
+
+mod curves;
+mod raw;
+mod tables;
+
+pub use curves::{add, cut, fit, time_to_provide, Fitted};
+pub use tables::{analyse, read, report, step, who_at, Answers, Extent, Response, Room, ServerAnswer, State, Who};
+
+/// Whether the library is linked in.
+pub const AVAILABLE: bool = cfg!(grodvejas_linked);
+
+/// The most servers that a table has.
+pub const SERVERS: usize = 16;
+/// The most tasks that a table has.
+pub const TASKS: usize = 64;
+/// The least that a work buffer holds.
+pub const ROOM: usize = 16_000;
+/// More bytes than a report has.
+pub const REPORT: usize = 4096;
+
+/// Why a call is refused: the number of the ground, and the line of the text, counted from 1, or 0 where no line is meant.
+#[derive(Clone, Copy, Debug, PartialEq, Eq)]
+pub struct Refusal {
+    pub number: u32,
+    pub line: u32,
+}
+
+impl Refusal {
+    /// What every call answers where the library is not linked in. No call of the library gives this number.
+    pub const UNAVAILABLE: Refusal = Refusal { number: u32::MAX, line: 0 };
+}
+
+impl std::fmt::Display for Refusal {
+    fn fmt(&self, out: &mut std::fmt::Formatter<'_>) -> std::fmt::Result {
+        if *self == Refusal::UNAVAILABLE {
+            return out.write_str("unavailable: the library is not linked in");
+        }
+        write!(out, "refused {} {}", self.number, self.line)
+    }
+}
+
+impl std::error::Error for Refusal {}
+
+/// What was answered, if the number that a call gave is 0.
+fn accepted<T>(number: u32, line: u32, answer: T) -> Result<T, Refusal> {
+    if number == 0 {
+        Ok(answer)
+    } else {
+        Err(Refusal { number, line })
+    }
+}

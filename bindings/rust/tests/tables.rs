@@ -1,0 +1,126 @@
+//! The calls on tables: tables A, B and C of the scope document, and texts that are refused.
+use grodvejas::{analyse, read, report, step, who_at, Extent, Refusal, Response, Room, ServerAnswer, State, Who, REPORT};
+
+const A: &[u8] = b"span\t-\nserver\tdeferrable\t3\t10\nserver\tdeferrable\t2\t4\nevery\t1\t1\t0\t4\t-\nevery\t2\t1\t0\t5\t-\nevery\t2\t2\t0\t8\t-\n";
+const B: &[u8] = b"span\t8\nserver\tdeferrable\t2\t5\nserver\tdeferrable\t2\t4\nonce\t1\t4\t3\t5\nevery\t2\t1\t0\t4\t4\n";
+const C: &[u8] = b"span\t8\nserver\tperiodic\t2\t6\nserver\tdeferrable\t1\t3\nonce\t1\t1\t3\t5\nonce\t2\t1\t0\t2\n";
+const ZERO_LEADS: &[u8] = b"span\t8\nserver\tdeferrable\t02\t5\nonce\t1\t4\t3\t5\n";
+
+fn refused<T>(number: u32, line: u32) -> Result<T, Refusal> {
+    Err(Refusal { number, line })
+}
+
+fn worst(response: u32, release: u32, margin: i32) -> Response {
+    Response::Worst { response, release, margin }
+}
+
+/// The report's bytes, when the rest of the buffer stays as it was.
+fn report_of(text: &[u8]) -> Vec<u8> {
+    let mut out = [b'#'; REPORT];
+    let n = report(text, &mut out).unwrap();
+    assert!(out[n..].iter().all(|&byte| byte == b'#'));
+    out[..n].to_vec()
+}
+
+#[test]
+#[cfg_attr(not(grodvejas_linked), ignore = "the library is not linked in")]
+fn report_of_table_a() {
+    let said = b"span\t40\nserver\t1\t4\t-\nserver\t2\t10\t-\ntask\t1\tworst\t1\t0\t3\ntask\t2\tworst\t3\t35\t2\ntask\t3\tworst\t7\t0\t1\n";
+    assert_eq!(report_of(A), said);
+}
+
+#[test]
+#[cfg_attr(not(grodvejas_linked), ignore = "the library is not linked in")]
+fn reports_of_tables_b_and_c() {
+    assert_eq!(report_of(B), b"span\t8\nserver\t1\t1\t-\nserver\t2\t2\t1\ntask\t1\tworst\t4\t3\t1\ntask\t2\tworst\t4\t4\t0\n");
+    assert_eq!(report_of(C), b"span\t8\nserver\t1\t1\t-\nserver\t2\t2\t-\ntask\t1\tworst\t4\t3\t1\ntask\t2\tworst\t3\t0\t-1\n");
+}
+
+#[test]
+#[cfg_attr(not(grodvejas_linked), ignore = "the library is not linked in")]
+fn analysis_of_tables_b_and_c() {
+    let mut room = Room::new();
+    let b = analyse(B, room.lend()).unwrap();
+    assert_eq!(b.span, 8);
+    assert_eq!(b.servers, [ServerAnswer { full: 1, short: None }, ServerAnswer { full: 2, short: Some(1) }]);
+    assert_eq!(b.tasks, [worst(4, 3, 1), worst(4, 4, 0)]);
+    assert_eq!(analyse(C, room.lend()).unwrap().tasks, [worst(4, 3, 1), worst(3, 0, -1)]);
+}
+
+#[test]
+#[cfg_attr(not(grodvejas_linked), ignore = "the library is not linked in")]
+fn unfinished_and_none() {
+    let text = b"span\t8\nserver\tdeferrable\t1\t4\nevery\t1\t3\t0\t8\t-\nonce\t1\t1\t9\t1\n";
+    assert_eq!(analyse(text, Room::new().lend()).unwrap().tasks, [Response::Unfinished { release: 0 }, Response::None]);
+}
+
+#[test]
+#[cfg_attr(not(grodvejas_linked), ignore = "the library is not linked in")]
+fn reading() {
+    assert_eq!(read(A), Ok(Extent { span: 40, servers: 2, tasks: 3 }));
+    assert_eq!(read(b""), refused(2, 0));
+    assert_eq!(read(ZERO_LEADS), refused(5, 2));
+}
+
+#[test]
+#[cfg_attr(not(grodvejas_linked), ignore = "the library is not linked in")]
+fn refused_text() {
+    let mut room = Room::new();
+    assert_eq!(analyse(ZERO_LEADS, room.lend()), refused(5, 2));
+    assert_eq!(who_at(ZERO_LEADS, 0, room.lend()), refused(5, 2));
+    assert_eq!(step(ZERO_LEADS, &mut State::default()), refused(5, 2));
+    assert_eq!(report_of(ZERO_LEADS), b"refused\t5\t2\n");
+}
+
+#[test]
+#[cfg_attr(not(grodvejas_linked), ignore = "the library is not linked in")]
+fn each_tick_of_table_a() {
+    let mut room = Room::new();
+    let mut state = State::default();
+    let mut held = 0;
+    for tick in 0..40 {
+        let who = step(A, &mut state).unwrap();
+        assert_eq!(state.tick, tick + 1);
+        assert_eq!(who_at(A, tick, room.lend()), Ok(who), "tick {tick}");
+        held += u32::from(who != Who::default());
+    }
+    // ten jobs of one tick, eight of one, five of two
+    assert_eq!(held, 10 + 8 + 10);
+}
+
+#[test]
+#[cfg_attr(not(grodvejas_linked), ignore = "the library is not linked in")]
+fn ticks_and_states_out_of_range() {
+    assert_eq!(who_at(A, 40, Room::new().lend()), refused(13, 0));
+    let late = State { tick: 40, ..State::default() };
+    let mut rich = State::default();
+    rich.budgets[1] = 3;
+    let mut busy = State::default();
+    busy.waiting[2] = 300_000_001;
+    for before in [late, rich, busy] {
+        let mut state = before;
+        assert_eq!(step(A, &mut state), refused(13, 0));
+        assert_eq!(state, before);
+    }
+}
+
+#[test]
+#[cfg_attr(not(grodvejas_linked), ignore = "the library is not linked in")]
+fn entries_beyond_the_counts_pass_through() {
+    let mut state = State::default();
+    state.budgets[2] = 99_999;
+    state.waiting[63] = u32::MAX;
+    step(A, &mut state).unwrap();
+    assert_eq!((state.budgets[2], state.waiting[63]), (99_999, u32::MAX));
+}
+
+#[test]
+#[cfg_attr(not(grodvejas_linked), ignore = "the library is not linked in")]
+fn report_with_too_little_room() {
+    let n = report_of(A).len();
+    let mut out = [b'#'; REPORT];
+    assert_eq!(report(A, &mut out[..n]), Ok(n));
+    let mut out = [b'#'; REPORT];
+    assert_eq!(report(A, &mut out[..n - 1]), refused(11, 0));
+    assert_eq!(out, [b'#'; REPORT]);
+}
