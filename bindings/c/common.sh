@@ -1,18 +1,21 @@
+# shellcheck shell=bash
 # What the scripts share that build a C program over the archive and run it. They are in the repository's root when they call this.
 
-# Sets `archive`: in the folder that GRODVEJAS_LIB names, or else proved and built here.
+# Sets `archive`: in the folder that GRODVEJAS_LIB names by its full path, or else proved and built here.
 find_archive() {
+    archive=${GRODVEJAS_LIB:-target/staticlib}/libexports.a
     if [ -n "${GRODVEJAS_LIB:-}" ]; then
-        archive=$GRODVEJAS_LIB/libexports.a
         [ -r "$archive" ] || { echo "there is no $archive (GRODVEJAS_LIB)" >&2; exit 2; }
         return
     fi
+    # an archive that is newer than every file it is made from stays
+    if [ -f "$archive" ] && [ -z "$(find crates crates.txt -newer "$archive" -print -quit)" ]; then
+        return
+    fi
     command -v rt >/dev/null || { echo "the Rattle kit's command rt is not on the PATH" >&2; exit 2; }
-    # what has not changed since it was last proved is not proved again
     echo "proving and building the archive (the first time takes some minutes) .." >&2
     mkdir -p target
     rt staticlib exports >target/staticlib.log 2>&1 || { cat target/staticlib.log >&2; exit 1; }
-    archive=target/staticlib/libexports.a
 }
 
 # Sets `compiler`, for x86-64 programs, and `host`: native or emulated.
