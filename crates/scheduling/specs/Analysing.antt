@@ -1,4 +1,4 @@
--- What the analysis answers: "all answers out by value, or number and line".
+-- What the analysis answers of a text: the answers of all servers and tasks by value, or number and line.
 use Prim.Native.Nat.{ℕ, _<_}
 use mathlib.Core.Path.{_≡_}
 use mathlib.Core.List.{List}
