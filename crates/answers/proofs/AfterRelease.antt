@@ -6,14 +6,15 @@ use mathlib.Core.Bool.{Bool, true, false}
 use native.Mathlib.Omega.{arith}
 use native.Mathlib.Decide.{decLt}
 use lib.ListN.{length, getD}
-use Rattle.windows.specs.Windows.{pick, upto}
+use Rattle.basics.specs.Choice.{pick}
+use Rattle.windows.specs.Windows.{upto}
 use Rattle.windows.proofs.Counts.{upto-rises}
 use Rattle.table.specs.declared.Task.{Task}
 use Rattle.table.specs.declared.Table.{Table}
-use Rattle.machine.specs.Machine.{taskAt, releasedAt, gains}
+use Rattle.table.specs.Places.{taskAt, Obeyed}
+use Rattle.table.specs.Releases.{releasedAt, gains}
 use Rattle.machine.specs.Run.{runsIn}
-use Rattle.machine.specs.Parts.{Obeyed}
-use Rattle.machine.proofs.Obeyed.{task-some}
+use Rattle.table.proofs.Obeyed.{task-some}
 use Rattle.machine.proofs.WholeRun.{work-counts}
 use Rattle.schedule.specs.Curves.{releasesFrom}
 use Rattle.answers.specs.Jobs.{Job, releasesOf, Ends}

@@ -2,13 +2,13 @@
 use mathlib.Core.Path.{refl}
 use Rattle.windows.specs.Windows.{inside, cover, endOf, window, join, runs, upto, waiting, done, fitIn, fit, firstGiven}
 use Rattle.windows.specs.Servers.{before, held}
-use Rattle.machine.specs.Machine.{firstOf}
+use Rattle.table.specs.Places.{firstOf}
 use Rattle.schedule.specs.Curves.{below, releasesFrom, withReleases, demandOf, summedBelow, heldIn, freeOf, leftBelow, runningOf}
-use Rattle.answers.specs.Answers.{judged, outcomeOf}
+use Rattle.answers.specs.Answers.{judged, verdictOf}
 use Rattle.answers.specs.Examples.{Checked}
 
 pub checked : Checked
-unfolding inside cover endOf window join runs upto waiting done fitIn fit firstGiven before held firstOf below releasesFrom withReleases demandOf summedBelow heldIn freeOf leftBelow runningOf judged outcomeOf
+unfolding inside cover endOf window join runs upto waiting done fitIn fit firstGiven before held firstOf below releasesFrom withReleases demandOf summedBelow heldIn freeOf leftBelow runningOf judged verdictOf
 checked = record {
   a-one = refl;
   a-two = refl;

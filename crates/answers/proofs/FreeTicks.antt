@@ -7,13 +7,13 @@ use native.Mathlib.Nat.{le-div-iff-mul-le, mul-le-mul-right}
 use native.Mathlib.Decide.{decLt}
 use lib.Dec.{ltb, eqb}
 use borrow.Author.Tests.{lt-ltb, le-ltb, ne-eqb}
-use Rattle.windows.specs.Windows.{pick, cover, upto}
+use Rattle.basics.specs.Choice.{pick}
+use Rattle.windows.specs.Windows.{cover, upto}
 use Rattle.windows.proofs.Counts.{upto-same}
 use Rattle.table.specs.declared.Table.{Table}
-use Rattle.machine.specs.Machine.{serverAt}
+use Rattle.table.specs.Places.{serverAt, Obeyed}
 use Rattle.machine.specs.Run.{holderAt}
-use Rattle.machine.specs.Parts.{Obeyed}
-use Rattle.machine.proofs.Obeyed.{server-period}
+use Rattle.table.proofs.Obeyed.{server-period}
 use Rattle.schedule.specs.Curves.{freeOf}
 use Rattle.schedule.proofs.Marks.{mark-other, unmarked, unmarked-before, unmarked-behind}
 use Rattle.schedule.proofs.FromCurves.{free-cover}

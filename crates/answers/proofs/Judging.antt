@@ -7,27 +7,28 @@ use mathlib.Core.Bool.{Bool, true, false, true≢false}
 use native.Mathlib.Omega.{arith}
 use lib.Dec.{ltb}
 use borrow.Author.Tests.{ltb-true, ltb-false}
-use Rattle.windows.specs.Windows.{pick, Instant, at, notProvided, provide}
-use Rattle.answers.specs.Answers.{Outcome, worst, unfinished, none, worse, afterJob, judged}
+use Rattle.basics.specs.Choice.{pick}
+use Rattle.windows.specs.Windows.{Instant, at, notProvided, provide}
+use Rattle.answers.specs.Answers.{Verdict, worst, unfinished, none, worse, afterJob, judged}
 
 -- ---- outcomes, told apart
 
-abbrev isNone : Outcome → Bool
+abbrev isNone : Verdict → Bool
 isNone (worst m q) = false
 isNone (unfinished q) = false
 isNone none = true
 
-abbrev isWorst : Outcome → Bool
+abbrev isWorst : Verdict → Bool
 isWorst (worst m q) = true
 isWorst (unfinished q) = false
 isWorst none = false
 
-abbrev responseIn : Outcome → ℕ
+abbrev responseIn : Verdict → ℕ
 responseIn (worst m q) = m
 responseIn (unfinished q) = 0
 responseIn none = 0
 
-abbrev releaseIn : Outcome → ℕ
+abbrev releaseIn : Verdict → ℕ
 releaseIn (worst m q) = q
 releaseIn (unfinished q) = q
 releaseIn none = 0
@@ -79,7 +80,7 @@ module _ (running : List ℕ) (work : ℕ) where
     pub first : (n r : ℕ) → JobFrom j rs n r → n < job → finish n - r < m
 
   -- where the worst response m comes from: from before, or from a job that is the first to have it
-  abbrev pub From : Outcome → ℕ → List ℕ → ℕ → ℕ → Type 0
+  abbrev pub From : Verdict → ℕ → List ℕ → ℕ → ℕ → Type 0
   From (worst a b) j rs m q = ((a ≡ m) × (b ≡ q)) ⊎ ((a < m) × Attained j rs m q)
   From (unfinished b) j rs m q = ⊥
   From none j rs m q = Attained j rs m q
@@ -107,7 +108,7 @@ module _ (running : List ℕ) (work : ℕ) where
         sooner n x (inr p) k = a .first n x p k
 
     -- what was the worst before it
-    from-front : (sofar : Outcome) (m q : ℕ) → From (worse sofar (t - r) r) (suc j) rs m q → From sofar j (r ∷ rs) m q
+    from-front : (sofar : Verdict) (m q : ℕ) → From (worse sofar (t - r) r) (suc j) rs m q → From sofar j (r ∷ rs) m q
     from-front none m q (inl p) = front-attains m q (p .0) (p .1)
     from-front none m q (inr p) = later-attains m q (p .0) (p .1)
     from-front (unfinished b) m q p = p
@@ -120,7 +121,7 @@ module _ (running : List ℕ) (work : ℕ) where
         go false i (inr p) = inr (p .0, later-attains m q (omega (arith, ltb-false a (t - r) i, p .0)) (p .1))
 
     -- its response is no more than the worst
-    front-most : (sofar : Outcome) (m q : ℕ) → From (worse sofar (t - r) r) (suc j) rs m q → t - r ≤ m
+    front-most : (sofar : Verdict) (m q : ℕ) → From (worse sofar (t - r) r) (suc j) rs m q → t - r ≤ m
     front-most none m q (inl p) = omega (arith, p .0)
     front-most none m q (inr p) = omega (arith, p .0)
     front-most (unfinished b) m q p = absurd p
@@ -135,19 +136,19 @@ module _ (running : List ℕ) (work : ℕ) where
   -- ---- the worst response
 
   -- what the worst response m, of the job released at q, says of the jobs of a list
-  pub record WorstOf (sofar : Outcome) (j : ℕ) (rs : List ℕ) (m q : ℕ) : Type 0 where
+  pub record WorstOf (sofar : Verdict) (j : ℕ) (rs : List ℕ) (m q : ℕ) : Type 0 where
     pub all : (n r : ℕ) → JobFrom j rs n r → Met m n r
     pub from : From sofar j rs m q
 
   -- no job is left
-  worst-kept : (sofar : Outcome) (j m q : ℕ) → sofar ≡ worst m q → WorstOf sofar j [] m q
+  worst-kept : (sofar : Verdict) (j m q : ℕ) → sofar ≡ worst m q → WorstOf sofar j [] m q
   unfolding JobFrom
   worst-kept (worst a b) j m q e = record { all = λ n r p. absurd p; from = inl (ap responseIn e, ap releaseIn e) }
   worst-kept (unfinished b) j m q e = absurd (true≢false (sym (ap isWorst e)))
   worst-kept none j m q e = absurd (true≢false (sym (ap isWorst e)))
 
   -- one job more in front
-  worst-front : (sofar : Outcome) (j t r : ℕ) (rs : List ℕ) (m q : ℕ) → provide running (j * work) ≡ at t
+  worst-front : (sofar : Verdict) (j t r : ℕ) (rs : List ℕ) (m q : ℕ) → provide running (j * work) ≡ at t
       → WorstOf (worse sofar (t - r) r) (suc j) rs m q → WorstOf sofar j (r ∷ rs) m q
   unfolding JobFrom
   worst-front sofar j t r rs m q e w = record { all = each; from = from-front j t r rs e sofar m q (w .from) }
@@ -158,7 +159,7 @@ module _ (running : List ℕ) (work : ℕ) where
           (record { ends = finishes j t e; most = rw (finish-is j t e) (front-most j t r rs e sofar m q (w .from)) })
       each n x (inr p) = w .all n x p
 
-  pub worst-of : (rs : List ℕ) (sofar : Outcome) (j m q : ℕ) → judged running work j rs sofar ≡ worst m q → WorstOf sofar j rs m q
+  pub worst-of : (rs : List ℕ) (sofar : Verdict) (j m q : ℕ) → judged running work j rs sofar ≡ worst m q → WorstOf sofar j rs m q
   unfolding judged
   worst-of [] sofar j m q e = worst-kept sofar j m q e
   worst-of (r ∷ rs) sofar j m q e = go (provide running (j * work)) refl e (λ t. worst-of rs (worse sofar (t - r) r) (suc j) m q)
@@ -178,12 +179,12 @@ module _ (running : List ℕ) (work : ℕ) where
     pub before : (n r : ℕ) → JobFrom j rs n r → n < job → Finishes n
 
   -- nothing is unfinished so far
-  abbrev isSettled : Outcome → Bool
+  abbrev isSettled : Verdict → Bool
   isSettled (worst m q) = true
   isSettled (unfinished q) = false
   isSettled none = true
 
-  settled-worse : (sofar : Outcome) (n r : ℕ) → isSettled sofar ≡ true → isSettled (worse sofar n r) ≡ true
+  settled-worse : (sofar : Verdict) (n r : ℕ) → isSettled sofar ≡ true → isSettled (worse sofar n r) ≡ true
   settled-worse none n r e = refl
   settled-worse (unfinished b) n r e = e
   settled-worse (worst a b) n r e = go (ltb a n)
@@ -211,7 +212,7 @@ module _ (running : List ℕ) (work : ℕ) where
       sooner n x (inl p) k = rw (p .0) (finishes j t e)
       sooner n x (inr p) k = u .before n x p k
 
-  pub unfinished-of : (rs : List ℕ) (sofar : Outcome) (j q : ℕ) → isSettled sofar ≡ true → judged running work j rs sofar ≡ unfinished q
+  pub unfinished-of : (rs : List ℕ) (sofar : Verdict) (j q : ℕ) → isSettled sofar ≡ true → judged running work j rs sofar ≡ unfinished q
       → UnfinishedOf j rs q
   unfolding judged
   unfinished-of [] sofar j q s e = absurd (true≢false (sym s ∙ ap isSettled e))
@@ -226,7 +227,7 @@ module _ (running : List ℕ) (work : ℕ) where
 
   -- ---- no job
 
-  some-worse : (sofar : Outcome) (n r : ℕ) → isNone (worse sofar n r) ≡ false
+  some-worse : (sofar : Verdict) (n r : ℕ) → isNone (worse sofar n r) ≡ false
   some-worse none n r = refl
   some-worse (unfinished b) n r = refl
   some-worse (worst a b) n r = go (ltb a n)
@@ -236,7 +237,7 @@ module _ (running : List ℕ) (work : ℕ) where
       go false = refl
 
   -- once there is an outcome, there is one at the end
-  some-stays : (rs : List ℕ) (sofar : Outcome) (j : ℕ) → isNone sofar ≡ false → isNone (judged running work j rs sofar) ≡ false
+  some-stays : (rs : List ℕ) (sofar : Verdict) (j : ℕ) → isNone sofar ≡ false → isNone (judged running work j rs sofar) ≡ false
   unfolding judged
   some-stays [] sofar j s = s
   some-stays (r ∷ rs) sofar j s = go (provide running (j * work)) (λ t. some-stays rs (worse sofar (t - r) r) (suc j) (some-worse sofar (t - r) r))
@@ -247,7 +248,7 @@ module _ (running : List ℕ) (work : ℕ) where
       go notProvided ih = refl
 
   -- where there is none at the end, there is no job
-  pub none-of : (rs : List ℕ) (sofar : Outcome) (j : ℕ) → judged running work j rs sofar ≡ none → rs ≡ []
+  pub none-of : (rs : List ℕ) (sofar : Verdict) (j : ℕ) → judged running work j rs sofar ≡ none → rs ≡ []
   unfolding judged
   none-of [] sofar j e = refl
   none-of (r ∷ rs) sofar j e = absurd (go (provide running (j * work)) e)

@@ -7,10 +7,9 @@ use lib.Dec.{ltb}
 use lib.IntN.{ℤ, pos, negsuc, natAbs, _-ℤ_}
 use borrow.Author.Tests.{ltb-true, ltb-false}
 use Rattle.table.specs.declared.Table.{Table}
-use Rattle.machine.specs.Machine.{taskAt}
-use Rattle.machine.specs.Parts.{Obeyed}
-use Rattle.machine.proofs.Obeyed.{span-most, task-deadline}
-use Rattle.answers.specs.Answers.{worst, outcomeOf, marginOf}
+use Rattle.table.specs.Places.{taskAt, Obeyed}
+use Rattle.table.proofs.Obeyed.{span-most, task-deadline}
+use Rattle.answers.specs.Answers.{worst, verdictOf, marginOf}
 use Rattle.answers.proofs.Responses.{worst-is}
 use Rattle.answers.proofs.AfterRelease.{ends-after-release}
 
@@ -25,14 +24,14 @@ difference-within d (suc n) a b p q = go (ltb d (suc n))
 
 module _ (table : Table) (ok : Obeyed table) (k : ℕ) (h : k < table .«tasks_n») where
   -- a worst response is from 1 to 16,000
-  pub worst-within : (n q : ℕ) → outcomeOf table k ≡ worst n q → (1 ≤ n) × (n ≤ 16000)
+  pub worst-within : (n q : ℕ) → verdictOf table k ≡ worst n q → (1 ≤ n) × (n ≤ 16000)
   worst-within n q e =
       let w = worst-is table ok k h n q e in
       let x = w .all (w .job) q (w .released) in
       let after = ends-after-release table ok k h (w .job) q (x .instant) (w .released) (x .ends) in
       (omega (arith, after, w .attains), omega (arith, w .attains, x .ends .within, span-most table ok))
 
-  pub margin-within : (n q : ℕ) → outcomeOf table k ≡ worst n q → natAbs (marginOf (taskAt table k .deadline) n) ≤ 15999
+  pub margin-within : (n q : ℕ) → verdictOf table k ≡ worst n q → natAbs (marginOf (taskAt table k .deadline) n) ≤ 15999
   margin-within n q e =
       let r = worst-within n q e in
       let d = task-deadline table ok k h in

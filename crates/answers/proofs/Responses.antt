@@ -8,19 +8,20 @@ use native.Mathlib.Omega.{arith}
 use native.Mathlib.Nat.{one-le-mul}
 use native.Mathlib.Decide.{decLe, ℕ-discrete}
 use lib.ListN.{length, getD}
-use Rattle.windows.specs.Windows.{pick, cover, upto, at, notProvided, provide}
+use Rattle.basics.specs.Choice.{pick}
+use Rattle.windows.specs.Windows.{cover, upto, at, notProvided, provide}
 use Rattle.windows.proofs.Counts.{upto-same}
 use Rattle.windows.proofs.Providing.{provide-says, provide-reached}
 use Rattle.table.specs.declared.Release.{Release}
 use Rattle.table.specs.declared.Table.{Table}
-use Rattle.machine.specs.Machine.{taskAt, releasedAt}
+use Rattle.table.specs.Places.{taskAt, Obeyed}
+use Rattle.table.specs.Releases.{releasedAt}
 use Rattle.machine.specs.Run.{runsIn}
-use Rattle.machine.specs.Parts.{Obeyed}
-use Rattle.machine.proofs.Obeyed.{task-some}
+use Rattle.table.proofs.Obeyed.{task-some}
 use Rattle.schedule.specs.Curves.{releasesFrom, runningOf}
 use Rattle.schedule.proofs.FromCurves.{running-inside, running-cover}
 use Rattle.schedule.proofs.AsMachine.{run-is-machine}
-use Rattle.answers.specs.Answers.{worst, unfinished, none, outcomeOf}
+use Rattle.answers.specs.Answers.{worst, unfinished, none, verdictOf}
 use Rattle.answers.specs.Jobs.{Job, releasesOf, Ends, Ended, Worst, Unfinished}
 use Rattle.answers.proofs.Judging.{JobFrom, finish, Finishes, worst-of, unfinished-of, none-of}
 
@@ -121,8 +122,8 @@ module _ (table : Table) (ok : Obeyed table) (k : ℕ) (h : k < table .«tasks_n
   abbrev finishes-ended : (n : ℕ) → 1 ≤ n → Finishes curve work n → Ended table k n
   finishes-ended n s e = record { instant = finish curve work n; ends = provided-ends n (finish curve work n) s e }
 
-  pub worst-is : (m q : ℕ) → outcomeOf table k ≡ worst m q → Worst table k m q
-  unfolding outcomeOf
+  pub worst-is : (m q : ℕ) → verdictOf table k ≡ worst m q → Worst table k m q
+  unfolding verdictOf
   worst-is m q e =
       let w = worst-of curve work (releasesOf table k) none 1 m q e in
       let a = w .from in
@@ -135,8 +136,8 @@ module _ (table : Table) (ok : Obeyed table) (k : ℕ) (h : k < table .«tasks_n
         first = λ n r j l. a .first n r (job-numbered (releasesOf table k) n r j) l;
       }
 
-  pub unfinished-is : (q : ℕ) → outcomeOf table k ≡ unfinished q → Unfinished table k q
-  unfolding outcomeOf
+  pub unfinished-is : (q : ℕ) → verdictOf table k ≡ unfinished q → Unfinished table k q
+  unfolding verdictOf
   unfinished-is q e =
       let u = unfinished-of curve work (releasesOf table k) none 1 q refl e in
       let j = numbered-job (releasesOf table k) (u .job) q (u .released) in
@@ -148,7 +149,7 @@ module _ (table : Table) (ok : Obeyed table) (k : ℕ) (h : k < table .«tasks_n
       }
 
   -- ---- "For a task with a release in the span": where there is none, no tick of the span has one
-  pub none-is : outcomeOf table k ≡ none → (t : ℕ) → t < table .span → releasedAt (taskAt table k .release) t ≡ false
-  unfolding outcomeOf
+  pub none-is : verdictOf table k ≡ none → (t : ℕ) → t < table .span → releasedAt (taskAt table k .release) t ≡ false
+  unfolding verdictOf
   none-is e t l =
       no-release (taskAt table k .release) (table .span) 0 (none-of curve work (releasesOf table k) none 1 e) t (omega arith) (omega arith)

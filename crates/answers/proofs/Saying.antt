@@ -6,10 +6,9 @@ use native.Mathlib.Omega.{arith}
 use lib.Dec.{ltb}
 use borrow.Author.Tests.{ltb-true, ltb-false}
 use Rattle.table.specs.declared.Table.{Table}
-use Rattle.machine.specs.Machine.{serverAt, taskAt, firstOf}
-use Rattle.machine.specs.Parts.{Obeyed}
-use Rattle.machine.proofs.Places.{First, first-is, first-not}
-use Rattle.answers.specs.Answers.{Outcome, worst, unfinished, none, responseOf, outcomeOf, taskAnswer, fullPeriods, freeIn, firstShort, shortOf, serverAnswer}
+use Rattle.table.specs.Places.{serverAt, taskAt, firstOf, Obeyed}
+use Rattle.table.proofs.Places.{First, first-is, first-not}
+use Rattle.answers.specs.Answers.{Verdict, worst, unfinished, none, responseOf, verdictOf, taskAnswer, fullPeriods, freeIn, firstShort, shortOf, serverAnswer}
 use Rattle.answers.specs.Jobs.{TaskSays, unheldIn, ShortSays, ServerSays}
 use Rattle.answers.proofs.Responses.{worst-is, unfinished-is, none-is}
 use Rattle.answers.proofs.FreeTicks.{full-ends, ends-full, free-counts}
@@ -17,9 +16,9 @@ use Rattle.answers.proofs.FreeTicks.{full-ends, ends-full, free-counts}
 -- ---- a task
 
 pub task-says : (table : Table) → Obeyed table → (k : ℕ) → k < table .«tasks_n» → TaskSays table k (taskAnswer table k .response)
-task-says table ok k h = go (outcomeOf table k) refl
+task-says table ok k h = go (verdictOf table k) refl
   where
-    go : (x : Outcome) → outcomeOf table k ≡ x → TaskSays table k (responseOf (taskAt table k .deadline) x)
+    go : (x : Verdict) → verdictOf table k ≡ x → TaskSays table k (responseOf (taskAt table k .deadline) x)
     go (worst n r) e = (worst-is table ok k h n r e, refl)
     go (unfinished r) e = unfinished-is table ok k h r e
     go none e = none-is table ok k h e

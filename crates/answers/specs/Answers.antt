@@ -5,10 +5,11 @@ use mathlib.Core.List.{List, [], _∷_}
 use mathlib.Core.Bool.{Bool}
 use lib.Dec.{ltb}
 use lib.IntN.{ℤ, pos, _-ℤ_}
-use Rattle.windows.specs.Windows.{pick, upto, cover, Instant, at, notProvided, provide}
+use Rattle.basics.specs.Choice.{pick}
+use Rattle.windows.specs.Windows.{upto, cover, Instant, at, notProvided, provide}
 use Rattle.table.specs.declared.Server.{Server}
 use Rattle.table.specs.declared.Table.{Table}
-use Rattle.machine.specs.Machine.{serverAt, taskAt, firstOf}
+use Rattle.table.specs.Places.{serverAt, taskAt, firstOf}
 use Rattle.schedule.specs.Curves.{releasesFrom, freeOf, runningOf}
 use Rattle.answers.specs.declared.Response.{Response}
 use Rattle.answers.specs.declared.Response.the-variants as response
@@ -20,30 +21,30 @@ use Rattle.answers.specs.declared.ServerAnswer.{ServerAnswer}
 -- ---- a task
 
 -- "worst, response, release of the first job that attains it"; "unfinished, release of the first job not ended at H"; "none: no release before H"
-pub data Outcome : Type 0 where
-  worst : ℕ → ℕ → Outcome
-  unfinished : ℕ → Outcome
-  none : Outcome
+pub data Verdict : Type 0 where
+  worst : ℕ → ℕ → Verdict
+  unfinished : ℕ → Verdict
+  none : Verdict
 
 -- the worst so far, once a job that was released at r has the response n: the first of two that are equal stays
-abbrev pub worse : Outcome → ℕ → ℕ → Outcome
+abbrev pub worse : Verdict → ℕ → ℕ → Verdict
 worse (worst m q) n r = pick (ltb m n) (worst n r) (worst m q)
 worse (unfinished q) n r = unfinished q
 worse none n r = worst n r
 
 -- "Jobs of one task are served in order of release: job j (from 1) ends when the task has run j times its work." Of the jobs from j on, with
 -- their releases; `next` is what comes of the later ones
-abbrev pub afterJob : Instant → ℕ → Outcome → (Outcome → Outcome) → Outcome
+abbrev pub afterJob : Instant → ℕ → Verdict → (Verdict → Verdict) → Verdict
 afterJob (at t) r sofar next = next (worse sofar (t - r) r)
 afterJob notProvided r sofar next = unfinished r
 
-unfoldable pub judged : List ℕ → ℕ → ℕ → List ℕ → Outcome → Outcome
+unfoldable pub judged : List ℕ → ℕ → ℕ → List ℕ → Verdict → Verdict
 judged running work j [] sofar = sofar
 judged running work j (r ∷ rs) sofar = afterJob (provide running (j * work)) r sofar (judged running work (suc j) rs)
 
 -- of the task at place k
-unfoldable pub outcomeOf : Table → ℕ → Outcome
-outcomeOf table k =
+unfoldable pub verdictOf : Table → ℕ → Verdict
+verdictOf table k =
     judged (runningOf table k) (taskAt table k .work) 1 (releasesFrom (taskAt table k .release) (table .span) 0) none
 
 -- "Margin is deadline minus response, below zero when late"
@@ -51,13 +52,13 @@ abbrev pub marginOf : ℕ → ℕ → ℤ
 marginOf deadline response = pos deadline -ℤ pos response
 
 -- what a task's answer says, by its deadline
-abbrev pub responseOf : ℕ → Outcome → Response
-responseOf deadline (worst n r) = response.Worst n r (marginOf deadline n)
+abbrev pub responseOf : ℕ → Verdict → Response
+responseOf deadline (worst n r) = response.Worst (record { response = n; release = r; margin = marginOf deadline n })
 responseOf deadline (unfinished r) = response.Unfinished r
 responseOf deadline none = response.None
 
 abbrev pub taskAnswer : Table → ℕ → TaskAnswer
-taskAnswer table k = record { response = responseOf (taskAt table k .deadline) (outcomeOf table k) }
+taskAnswer table k = record { response = responseOf (taskAt table k .deadline) (verdictOf table k) }
 
 -- ---- a server
 

@@ -6,9 +6,11 @@ use mathlib.Core.List.{List}
 use mathlib.Core.Bool.{false}
 use lib.ListN.{length, getD}
 use lib.Dec.{ltb, eqb}
-use Rattle.windows.specs.Windows.{pick, upto}
+use Rattle.basics.specs.Choice.{pick}
+use Rattle.windows.specs.Windows.{upto}
 use Rattle.table.specs.declared.Table.{Table}
-use Rattle.machine.specs.Machine.{serverAt, taskAt, releasedAt}
+use Rattle.table.specs.Places.{serverAt, taskAt}
+use Rattle.table.specs.Releases.{releasedAt}
 use Rattle.machine.specs.Run.{holderAt, runsIn}
 use Rattle.schedule.specs.Curves.{releasesFrom}
 use Rattle.answers.specs.Answers.{marginOf}
@@ -61,7 +63,7 @@ pub record Unfinished (table : Table) (k q : ℕ) : Type 0 where
 
 -- what the answer of the task at place k says of the machine's run
 abbrev pub TaskSays : Table → ℕ → Response → Type 0
-TaskSays table k (response.Worst n r margin) = Worst table k n r × (margin ≡ marginOf (taskAt table k .deadline) n)
+TaskSays table k (response.Worst w) = Worst table k (w .response) (w .release) × (w .margin ≡ marginOf (taskAt table k .deadline) (w .response))
 TaskSays table k (response.Unfinished r) = Unfinished table k r
 TaskSays table k response.None = (t : ℕ) → t < table .span → releasedAt (taskAt table k .release) t ≡ false
 

@@ -1,9 +1,17 @@
 // What the report says of each task and each server: the answers' types, their definitions (specs/) and laws (proofs/).
 
-// A task's answer: the worst response, the release of the first job that attains it, and the margin; or the release of the first job that has
-// not ended with the span; or nothing, if no job is released in it.
+use refusals::Refusal;
+
+// The worst response, the release of the first job that attains it, and the margin.
+pub struct WorstJob {
+    pub response: u32,
+    pub release: u32,
+    pub margin: i32,
+}
+
+// A task's answer: the worst response; or the release of the first job that has not ended with the span; or nothing, if no job is released in it.
 pub enum Response {
-    Worst(u32, u32, i32),
+    Worst(WorstJob),
     Unfinished(u32),
     None,
 }
@@ -24,11 +32,10 @@ pub struct ServerAnswer {
     pub short: Short,
 }
 
-// The answers of a table's servers and tasks, as many as it has, and its span; those beyond its counts are `Never` and `None`. Or the number and
-// line of a refusal, which are 0 otherwise.
+// The answers of a table's servers and tasks, as many as it has, and its span; those beyond its counts are `Never` and `None`. Or a
+// refusal, with no answers.
 pub struct Analysis {
-    pub number: u32,
-    pub line: u32,
+    pub refusal: Refusal,
     pub span: u32,
     pub servers_n: usize,
     pub tasks_n: usize,

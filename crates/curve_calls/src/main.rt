@@ -19,117 +19,111 @@ use batch::read_lines;
 use printing::put_fitted;
 use printing::put_provided;
 use printing::put_written;
-use reading::lend_room;
+use reading::Curve;
+use reading::lend;
 use reading::read_curve;
+use reading::read_size;
+ghost use Prim.Native.Nat.{_≤_};
+ghost use Rattle.io.specs.Counts.{Counts};
 
-// The most numbers that a curve or a lent buffer may have.
-const MOST: usize = 4096;
-
-// Adds up two curves, and puts the answer and the lent buffer.
-fn answer_add(a: &[u32], b: &[u32], sum: &mut [u32], out: &mut [u8; 65536], n: usize) -> usize {
-    let answer = curves::add(a, b, sum);
-    put_written(out, n, answer, sum)
+// Adds up two curves, with a buffer of so much room, and puts the answer and the buffer.
+fn answer_add(a: Curve, b: Curve, room: usize, out: &mut [u8; 65536], n: usize) -> usize
+    requires { ⌜ Counts (a .count) (a .numbers) × (Counts (b .count) (b .numbers) × (room ≤ 4096)) ⌝ }
+{
+    let xs = a.numbers;
+    let ys = b.numbers;
+    let na = a.count;
+    let nb = b.count;
+    let mut sum = lend(room);
+    let answer = curves::add(&xs[..na], &ys[..nb], &mut sum[..room]);
+    put_written(out, n, answer, &sum, room)
 }
 
-// Cuts a curve, and puts the answer and the lent buffer.
-fn answer_cut(
-    curve: &[u32],
-    period: u32,
-    parts: &mut [u32],
-    out: &mut [u8; 65536],
-    n: usize,
-) -> usize {
-    let answer = curves::cut(curve, period, parts);
-    put_written(out, n, answer, parts)
+// Cuts a curve, with a buffer of so much room, and puts the answer and the buffer.
+fn answer_cut(curve: Curve, period: u32, room: usize, out: &mut [u8; 65536], n: usize) -> usize
+    requires { ⌜ Counts (curve .count) (curve .numbers) × (room ≤ 4096) ⌝ }
+{
+    let xs = curve.numbers;
+    let nc = curve.count;
+    let mut parts = lend(room);
+    let answer = curves::cut(&xs[..nc], period, &mut parts[..room]);
+    put_written(out, n, answer, &parts, room)
 }
 
-// Fits a demand into a supply, and puts the answer and the three lent buffers.
+// Fits a demand into a supply, with three buffers of so much room each, and puts the answer and the buffers.
 fn answer_fit(
-    demand: &[u32],
-    supply: &[u32],
-    left: &mut [u32],
-    served: &mut [u32],
-    rest: &mut [u32],
+    demand: Curve,
+    supply: Curve,
+    r1: usize,
+    r2: usize,
+    r3: usize,
     out: &mut [u8; 65536],
     n: usize,
-) -> usize {
-    let answer = curves::fit(demand, supply, left, served, rest);
-    put_fitted(out, n, answer, left, served, rest)
+) -> usize
+    requires { ⌜ Counts (demand .count) (demand .numbers) × (Counts (supply .count) (supply .numbers) × ((r1 ≤ 4096) × ((r2 ≤ 4096) × (r3 ≤ 4096)))) ⌝ }
+{
+    let xs = demand.numbers;
+    let ys = supply.numbers;
+    let nd = demand.count;
+    let ns = supply.count;
+    let mut left = lend(r1);
+    let mut served = lend(r2);
+    let mut rest = lend(r3);
+    let answer = curves::fit(
+        &xs[..nd],
+        &ys[..ns],
+        &mut left[..r1],
+        &mut served[..r2],
+        &mut rest[..r3],
+    );
+    put_fitted(out, n, answer, &left, r1, &served, r2, &rest, r3)
 }
 
 // Runs the rest of a line that asks for adding up, and answers how many bytes wait after it.
 fn run_add(text: &[u8], at: usize, out: &mut [u8; 65536], n: usize) -> usize {
-    let mut a = [0u32; MOST];
-    let mut b = [0u32; MOST];
-    let mut sum = [0u32; MOST];
-    let sa = read_curve(text, at, &mut a);
-    let sb = read_curve(text, sa.behind, &mut b);
-    let room = lend_room(text, sb.behind, &mut sum);
+    let a = read_curve(text, at);
+    let b = read_curve(text, a.behind);
+    let room = read_size(text, b.behind);
     if !ends(text, room.behind) {
         return put_bad(out, n);
     }
-    let na = sa.count;
-    let nb = sb.count;
-    let ns = room.count;
-    answer_add(&a[..na], &b[..nb], &mut sum[..ns], out, n)
+    answer_add(a, b, room.count, out, n)
 }
 
 // Runs the rest of a line that asks for cutting.
 fn run_cut(text: &[u8], at: usize, out: &mut [u8; 65536], n: usize) -> usize {
-    let mut curve = [0u32; MOST];
-    let mut parts = [0u32; MOST];
     let period = next_number(text, at);
-    let size = read_curve(text, period.behind, &mut curve);
-    let room = lend_room(text, size.behind, &mut parts);
+    let curve = read_curve(text, period.behind);
+    let room = read_size(text, curve.behind);
     if !ends(text, room.behind) {
         return put_bad(out, n);
     }
-    let nc = size.count;
-    let np = room.count;
-    answer_cut(&curve[..nc], period.value, &mut parts[..np], out, n)
+    answer_cut(curve, period.value, room.count, out, n)
 }
 
 // Runs the rest of a line that asks for fitting.
 fn run_fit(text: &[u8], at: usize, out: &mut [u8; 65536], n: usize) -> usize {
-    let mut demand = [0u32; MOST];
-    let mut supply = [0u32; MOST];
-    let mut left = [0u32; MOST];
-    let mut served = [0u32; MOST];
-    let mut rest = [0u32; MOST];
-    let sd = read_curve(text, at, &mut demand);
-    let ss = read_curve(text, sd.behind, &mut supply);
-    let r1 = lend_room(text, ss.behind, &mut left);
-    let r2 = lend_room(text, r1.behind, &mut served);
-    let r3 = lend_room(text, r2.behind, &mut rest);
+    let demand = read_curve(text, at);
+    let supply = read_curve(text, demand.behind);
+    let r1 = read_size(text, supply.behind);
+    let r2 = read_size(text, r1.behind);
+    let r3 = read_size(text, r2.behind);
     if !ends(text, r3.behind) {
         return put_bad(out, n);
     }
-    let nd = sd.count;
-    let ns = ss.count;
-    let n1 = r1.count;
-    let n2 = r2.count;
-    let n3 = r3.count;
-    answer_fit(
-        &demand[..nd],
-        &supply[..ns],
-        &mut left[..n1],
-        &mut served[..n2],
-        &mut rest[..n3],
-        out,
-        n,
-    )
+    answer_fit(demand, supply, r1.count, r2.count, r3.count, out, n)
 }
 
 // Runs the rest of a line that asks for the time to provide.
 fn run_provide(text: &[u8], at: usize, out: &mut [u8; 65536], n: usize) -> usize {
-    let mut curve = [0u32; MOST];
     let amount = next_number(text, at);
-    let size = read_curve(text, amount.behind, &mut curve);
-    if !ends(text, size.behind) {
+    let curve = read_curve(text, amount.behind);
+    if !ends(text, curve.behind) {
         return put_bad(out, n);
     }
-    let nc = size.count;
-    let answer = curves::time_to_provide(&curve[..nc], amount.value);
+    let xs = curve.numbers;
+    let nc = curve.count;
+    let answer = curves::time_to_provide(&xs[..nc], amount.value);
     put_provided(out, n, answer)
 }
 
@@ -159,14 +153,8 @@ fn run_lines(text: &[u8]) {
 }
 
 // Reads standard input and runs its calls.
-fn run_input(room: &mut [u8; INPUT]) {
-    let n = read_lines(room);
-    let text: &[u8] = room;
-    run_lines(&text[..n]);
-}
-
-// Lends the array for standard input.
 fn main() {
     let mut room = [0u8; INPUT];
-    run_input(&mut room);
+    let n = read_lines(&mut room);
+    run_lines(&room[..n]);
 }

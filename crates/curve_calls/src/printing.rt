@@ -1,93 +1,103 @@
 // Writing answers: `n` bytes wait at the front of `out`, and each function answers how many wait after it.
+use crate::reading::MOST;
 use batch::put_byte;
 use batch::put_number;
 use batch::put_word;
 use curves::Fitted;
-use curves::Ground;
 use curves::Provided;
 use curves::Written;
+use refusals::Refusal;
+ghost use Prim.Native.Nat.{_≤_};
 
-// Puts a refusal: its number, and its line, which is 0 at every call on curves.
-fn put_ground(out: &mut [u8; 65536], n: usize, ground: Ground) -> usize {
-    match ground {
-        Ground::ArgumentZero => put_word(out, n, b"refused 12 0"),
-        Ground::NotPlain => put_word(out, n, b"refused 10 0"),
-        Ground::NoRoom => put_word(out, n, b"refused 11 0"),
-    }
+// Puts a space and a number of a curve or of a refusal.
+fn put_value(out: &mut [u8; 65536], n: usize, value: u32) -> usize {
+    put_number(out, n, value as u64)
 }
 
-// Puts what adding up or cutting answered.
-fn put_count(out: &mut [u8; 65536], n: usize, answer: Written) -> usize {
-    match answer {
-        Written::Count(count) => {
-            let m = put_word(out, n, b"count");
-            put_number(out, m, count as u64)
-        }
-        Written::Refused(ground) => put_ground(out, n, ground),
-    }
+// Puts a refusal: its number and its line.
+fn put_refusal(out: &mut [u8; 65536], n: usize, refusal: Refusal) -> usize {
+    let mut m = put_word(out, n, b"refused");
+    m = put_value(out, m, refusal.number);
+    put_value(out, m, refusal.line)
 }
 
-// Puts what fitting answered.
-fn put_counts(out: &mut [u8; 65536], n: usize, answer: Fitted) -> usize {
-    match answer {
-        Fitted::Counts(left, served, rest) => {
-            let n1 = put_word(out, n, b"counts");
-            let n2 = put_number(out, n1, left as u64);
-            let n3 = put_number(out, n2, served as u64);
-            put_number(out, n3, rest as u64)
-        }
-        Fitted::Refused(ground) => put_ground(out, n, ground),
-    }
-}
-
-// Puts what time to provide answered.
-fn put_time(out: &mut [u8; 65536], n: usize, answer: Provided) -> usize {
-    match answer {
-        Provided::At(t) => {
-            let m = put_word(out, n, b"at");
-            put_number(out, m, t as u64)
-        }
-        Provided::NotProvided => put_word(out, n, b"not provided"),
-        Provided::Refused(ground) => put_ground(out, n, ground),
-    }
-}
-
-// Puts a bar and every number of a lent buffer.
-fn put_lent(out: &mut [u8; 65536], n: usize, lent: &[u32]) -> usize {
+// Puts a bar and every number of a lent buffer, the first `room` of an array.
+fn put_lent(out: &mut [u8; 65536], n: usize, lent: &[u32; MOST], room: usize) -> usize
+    requires { ⌜ room ≤ 4096 ⌝ }
+{
     let mut m = put_word(out, n, b" |");
     let mut i: usize = 0;
-    while i < lent.len() {
-        m = put_number(out, m, lent[i] as u64);
+    while i < room {
+        m = put_value(out, m, lent[i]);
         i += 1;
     }
     m
 }
 
 // Puts the line of adding up or cutting: the answer and the lent buffer.
-pub fn put_written(out: &mut [u8; 65536], n: usize, answer: Written, lent: &[u32]) -> usize {
-    let n1 = put_count(out, n, answer);
-    let n2 = put_lent(out, n1, lent);
-    put_byte(out, n2, b'\n')
+pub fn put_written(
+    out: &mut [u8; 65536],
+    n: usize,
+    answer: Written,
+    lent: &[u32; MOST],
+    room: usize,
+) -> usize
+    requires { ⌜ room ≤ 4096 ⌝ }
+{
+    let mut m = match answer {
+        Written::Count(count) => {
+            let m = put_word(out, n, b"count");
+            put_number(out, m, count as u64)
+        }
+        Written::Refused(refusal) => put_refusal(out, n, refusal),
+    };
+    m = put_lent(out, m, lent, room);
+    put_byte(out, m, b'\n')
 }
 
-// Puts the line of fitting: the answer and the three lent buffers.
+// Puts what fitting answered.
+fn put_counts(out: &mut [u8; 65536], n: usize, answer: Fitted) -> usize {
+    match answer {
+        Fitted::Counts(left, served, rest) => {
+            let mut m = put_word(out, n, b"counts");
+            m = put_number(out, m, left as u64);
+            m = put_number(out, m, served as u64);
+            put_number(out, m, rest as u64)
+        }
+        Fitted::Refused(refusal) => put_refusal(out, n, refusal),
+    }
+}
+
+// Puts the line of fitting: the answer and the three lent buffers, each with its room.
 pub fn put_fitted(
     out: &mut [u8; 65536],
     n: usize,
     answer: Fitted,
-    left: &[u32],
-    served: &[u32],
-    rest: &[u32],
-) -> usize {
-    let n1 = put_counts(out, n, answer);
-    let n2 = put_lent(out, n1, left);
-    let n3 = put_lent(out, n2, served);
-    let n4 = put_lent(out, n3, rest);
-    put_byte(out, n4, b'\n')
+    left: &[u32; MOST],
+    r1: usize,
+    served: &[u32; MOST],
+    r2: usize,
+    rest: &[u32; MOST],
+    r3: usize,
+) -> usize
+    requires { ⌜ (r1 ≤ 4096) × ((r2 ≤ 4096) × (r3 ≤ 4096)) ⌝ }
+{
+    let mut m = put_counts(out, n, answer);
+    m = put_lent(out, m, left, r1);
+    m = put_lent(out, m, served, r2);
+    m = put_lent(out, m, rest, r3);
+    put_byte(out, m, b'\n')
 }
 
 // Puts the line of time to provide.
 pub fn put_provided(out: &mut [u8; 65536], n: usize, answer: Provided) -> usize {
-    let m = put_time(out, n, answer);
+    let m = match answer {
+        Provided::At(t) => {
+            let m = put_word(out, n, b"at");
+            put_value(out, m, t)
+        }
+        Provided::NotProvided => put_word(out, n, b"not provided"),
+        Provided::Refused(refusal) => put_refusal(out, n, refusal),
+    };
     put_byte(out, m, b'\n')
 }

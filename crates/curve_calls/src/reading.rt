@@ -2,64 +2,74 @@
 // place, the place behind it is the end of the text: nothing more is read there, and no line ends there.
 use batch::numbers::next_number;
 ghost use Prim.Native.Nat.{_≤_};
-ghost use lib.ListN.{length};
 ghost use Rattle.io.specs.Counts.{Counts};
 
-// How many numbers a curve or a lent buffer has, and the place behind what was read.
+// The most numbers that a curve or a lent buffer may have.
+pub const MOST: usize = 4096;
+
+// How many numbers a curve or a lent buffer has, and the place behind it in the text.
 pub struct Size {
     pub count: usize,
     pub behind: usize,
 }
 
-// Reads a space and a length, of `most` numbers at most.
-fn read_size(text: &[u8], at: usize, most: usize) -> Size
-    ensures { λ r. ⌜ r .count ≤ most ⌝ }
+// A curve at the front of an array, how many numbers it has, and the place behind it in the text.
+pub struct Curve {
+    pub numbers: [u32; MOST],
+    pub count: usize,
+    pub behind: usize,
+}
+
+// Reads a space and a length.
+pub fn read_size(text: &[u8], at: usize) -> Size
+    ensures { λ r. ⌜ r .count ≤ 4096 ⌝ }
 {
     let number = next_number(text, at);
     let count = number.value as usize;
-    if most < count {
+    if MOST < count {
         return Size {
             count: 0,
             behind: text.len(),
         };
     }
     Size {
-        count: count,
+        count,
         behind: number.behind,
     }
 }
 
-// Reads a curve to the front of an array: its length, for which the array has room, and its numbers.
-pub fn read_curve(text: &[u8], at: usize, curve: &mut [u32]) -> Size
-    ensures { λ r. ⌜ Counts (r .count) (now (curve .exit)) ⌝ }
+// Reads a curve: its length and its numbers.
+pub fn read_curve(text: &[u8], at: usize) -> Curve
+    ensures { λ r. ⌜ Counts (r .count) (r .numbers) ⌝ }
 {
-    let size = read_size(text, at, curve.len());
+    let size = read_size(text, at);
+    let count = size.count;
     let mut behind = size.behind;
+    let mut numbers = [0u32; MOST];
     let mut i: usize = 0;
-    while i < size.count {
+    while i < count {
         let number = next_number(text, behind);
-        curve[i] = number.value;
+        numbers[i] = number.value;
         behind = number.behind;
         i += 1;
     }
-    Size {
-        count: size.count,
-        behind: behind,
+    Curve {
+        numbers,
+        count,
+        behind,
     }
 }
 
-// Reads the room of a lent buffer, and puts the guard pattern into so much of an array's front: 7,000,000 and the place's index.
-pub fn lend_room(text: &[u8], at: usize, lent: &mut [u32]) -> Size
-    requires { ⌜ length (now lent) ≤ 4096 ⌝ }
-    ensures { λ r. ⌜ Counts (r .count) (now (lent .exit)) ⌝ }
+// An array to lend so much of, with the guard pattern in it: 7,000,000 and the place's index.
+pub fn lend(room: usize) -> [u32; MOST]
+    requires { ⌜ room ≤ 4096 ⌝ }
+    ensures { λ r. ⌜ Counts room r ⌝ }
 {
-    let room = read_size(text, at, lent.len());
-    let mut value: u32 = 7_000_000;
+    let mut numbers = [0u32; MOST];
     let mut i: usize = 0;
-    while i < room.count {
-        lent[i] = value;
-        value += 1;
+    while i < room {
+        numbers[i] = 7_000_000 + i as u32;
         i += 1;
     }
-    room
+    numbers
 }

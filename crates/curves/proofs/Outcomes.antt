@@ -3,12 +3,10 @@ use Prim.Native.Nat.{ℕ}
 use mathlib.Core.Path.{_≡_, refl, sym, ap, _∙_}
 use mathlib.Core.List.{List}
 use mathlib.Core.Bool.{Bool}
-use lib.Dec.{eqb}
-use Rattle.windows.specs.Windows.{pick, isPlain, Instant, at, notProvided}
-use Rattle.curves.specs.Refusals.{Outcome, refused, answer, numberOf, writtenOf, providedOf, fittedOf, Lengths}
+use Rattle.windows.specs.Windows.{isPlain, Instant, at, notProvided}
+use Rattle.refusals.specs.Outcomes.{Outcome, refused, answer}
+use Rattle.curves.specs.Refusals.{writtenOf, providedOf, fittedOf, Lengths}
 use Rattle.curves.specs.Calls.{Adds, Cuts, Fits, Provides}
-use Rattle.curves.specs.declared.Ground.{Ground}
-use Rattle.curves.specs.declared.Ground.the-variants.{ArgumentZero, NotPlain, NoRoom}
 use Rattle.curves.specs.declared.Written.{Written}
 use Rattle.curves.specs.declared.Written.the-variants as written
 use Rattle.curves.specs.declared.Provided.{Provided}
@@ -16,25 +14,16 @@ use Rattle.curves.specs.declared.Provided.the-variants as provided
 use Rattle.curves.specs.declared.Fitted.{Fitted}
 use Rattle.curves.specs.declared.Fitted.the-variants as fitted
 
--- ---- an answer can be told from its number and values
-
-groundOf : ℕ → Ground
-groundOf n = pick (eqb n 12) ArgumentZero (pick (eqb n 10) NotPlain NoRoom)
-
-ground-back : (g : Ground) → groundOf (numberOf g) ≡ g
-unfolding groundOf
-ground-back ArgumentZero = refl
-ground-back NotPlain = refl
-ground-back NoRoom = refl
+-- ---- an answer can be told from its outcome
 
 writtenBack : Outcome ℕ → Written
 writtenBack (answer n) = written.Count n
-writtenBack (refused n l) = written.Refused (groundOf n)
+writtenBack (refused refusal) = written.Refused refusal
 
 written-back : (r : Written) → writtenBack (writtenOf r) ≡ r
 unfolding writtenBack
 written-back (written.Count n) = refl
-written-back (written.Refused g) = ap written.Refused (ground-back g)
+written-back (written.Refused refusal) = refl
 
 pub written-once : (r q : Written) → writtenOf r ≡ writtenOf q → r ≡ q
 written-once r q e = sym (written-back r) ∙ ap writtenBack e ∙ written-back q
@@ -42,22 +31,22 @@ written-once r q e = sym (written-back r) ∙ ap writtenBack e ∙ written-back 
 providedBack : Outcome Instant → Provided
 providedBack (answer (at t)) = provided.At t
 providedBack (answer notProvided) = provided.NotProvided
-providedBack (refused n l) = provided.Refused (groundOf n)
+providedBack (refused refusal) = provided.Refused refusal
 
 provided-back : (r : Provided) → providedBack (providedOf r) ≡ r
 unfolding providedBack
 provided-back (provided.At t) = refl
 provided-back provided.NotProvided = refl
-provided-back (provided.Refused g) = ap provided.Refused (ground-back g)
+provided-back (provided.Refused refusal) = refl
 
 fittedBack : Outcome Lengths → Fitted
 fittedBack (answer n) = fitted.Counts (n .left) (n .served) (n .rest)
-fittedBack (refused n l) = fitted.Refused (groundOf n)
+fittedBack (refused refusal) = fitted.Refused refusal
 
 fitted-back : (r : Fitted) → fittedBack (fittedOf r) ≡ r
 unfolding fittedBack
 fitted-back (fitted.Counts l s r) = refl
-fitted-back (fitted.Refused g) = ap fitted.Refused (ground-back g)
+fitted-back (fitted.Refused refusal) = refl
 
 -- ---- the four calls
 

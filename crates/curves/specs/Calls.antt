@@ -3,7 +3,8 @@ use Prim.Native.Nat.{ℕ}
 use mathlib.Core.Path.{_≡_}
 use mathlib.Core.List.{List}
 use Rattle.windows.specs.Windows.{addUp, cutAt, fit}
-use Rattle.curves.specs.Refusals.{writtenOf, providedOf, fittedOf, addOutcome, cutOutcome, provideOutcome, fitOutcome, lent}
+use Rattle.curves.specs.Refusals.{writtenOf, providedOf, fittedOf, addOutcome, cutOutcome, provideOutcome, fitOutcome}
+use Rattle.refusals.specs.Outcomes.{lent}
 use Rattle.curves.specs.declared.Written.{Written}
 use Rattle.curves.specs.declared.Provided.{Provided}
 use Rattle.curves.specs.declared.Fitted.{Fitted}

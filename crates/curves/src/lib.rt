@@ -1,60 +1,32 @@
 // The four calls on curves: adding up, cutting, fitting, time to provide. A curve is lent as a flat slice of its windows' starts and
 // ends. Any slice and any number may be handed in; a bad one is refused, and a refused call changes nothing that was lent.
-mod adding;
-mod cutting;
-mod fitting;
-
+use refusals::Ground;
+use refusals::Refusal;
+use refusals::refused;
+use walks::LIMIT;
+use walks::adding;
+use walks::cutting;
 ghost use mathlib.Core.Path.{_≡_};
-ghost use mathlib.Core.Bool.{true};
-ghost use Prim.Native.Nat.{_+_, _<_, max};
-ghost use lib.ListN.{length, set};
 ghost use Rattle.windows.specs.Windows.{isPlain};
 ghost use Rattle.curves.specs.Calls.{Adds, Cuts, Fits, Provides};
-
-// The largest end that a plain curve may have.
-pub const LIMIT: u32 = 1_000_000;
-
-// Why a call is refused.
-pub enum Ground {
-    ArgumentZero,
-    NotPlain,
-    NoRoom,
-}
 
 // How many numbers a call wrote to the front of the lent buffer.
 pub enum Written {
     Count(usize),
-    Refused(Ground),
+    Refused(Refusal),
 }
 
 // When a curve has given the amount asked for.
 pub enum Provided {
     At(u32),
     NotProvided,
-    Refused(Ground),
+    Refused(Refusal),
 }
 
 // How many numbers fitting wrote: supply left, served, demand left.
 pub enum Fitted {
     Counts(usize, usize, usize),
-    Refused(Ground),
-}
-
-// The larger of two numbers.
-fn larger(a: u32, b: u32) -> u32
-    ensures { λ r. ⌜ r ≡ max a b ⌝ }
-{
-    if a < b { b } else { a }
-}
-
-// Writes a window at place `n` of a buffer, and answers the place behind it.
-fn put(out: &mut [u32], n: usize, s: u32, e: u32) -> usize
-    requires { ⌜ n + 1 < length (now out) ⌝ }
-    ensures { λ r. ⌜ (r ≡ n + 2) × (now (out .exit) ≡ set (set (now (out .entry)) n s) (n + 1) e) ⌝ }
-{
-    out[n] = s;
-    out[n + 1] = e;
-    n + 2
+    Refused(Refusal),
 }
 
 // Whether a curve is plain: an even length, each start below its end, each end below the next start, no end above LIMIT.
@@ -89,13 +61,13 @@ pub fn add(a: &[u32], b: &[u32], out: &mut [u32]) -> Written
     ensures { λ r. ⌜ Adds (now (a .entry)) (now (b .entry)) (now (out .entry)) r (now (out .exit)) ⌝ }
 {
     if !plain(a) {
-        return Written::Refused(Ground::NotPlain);
+        return Written::Refused(refused(Ground::NotPlain));
     }
     if !plain(b) {
-        return Written::Refused(Ground::NotPlain);
+        return Written::Refused(refused(Ground::NotPlain));
     }
     if !adding::fits(a, b, out.len()) {
-        return Written::Refused(Ground::NoRoom);
+        return Written::Refused(refused(Ground::NoRoom));
     }
     Written::Count(adding::write(a, b, out))
 }
@@ -105,13 +77,13 @@ pub fn cut(curve: &[u32], period: u32, out: &mut [u32]) -> Written
     ensures { λ r. ⌜ Cuts (now (curve .entry)) period (now (out .entry)) r (now (out .exit)) ⌝ }
 {
     if period == 0 {
-        return Written::Refused(Ground::ArgumentZero);
+        return Written::Refused(refused(Ground::ArgumentZero));
     }
     if !plain(curve) {
-        return Written::Refused(Ground::NotPlain);
+        return Written::Refused(refused(Ground::NotPlain));
     }
     if !cutting::fits(curve, period, out.len()) {
-        return Written::Refused(Ground::NoRoom);
+        return Written::Refused(refused(Ground::NoRoom));
     }
     Written::Count(cutting::write(curve, period, out))
 }
@@ -128,13 +100,13 @@ pub fn fit(
         r (now (left .exit)) (now (served .exit)) (now (rest .exit)) ⌝ }
 {
     if !plain(demand) {
-        return Fitted::Refused(Ground::NotPlain);
+        return Fitted::Refused(refused(Ground::NotPlain));
     }
     if !plain(supply) {
-        return Fitted::Refused(Ground::NotPlain);
+        return Fitted::Refused(refused(Ground::NotPlain));
     }
     if !fitting::fits(demand, supply, left.len(), served.len(), rest.len()) {
-        return Fitted::Refused(Ground::NoRoom);
+        return Fitted::Refused(refused(Ground::NoRoom));
     }
     let n = fitting::write(demand, supply, left, served, rest);
     Fitted::Counts(n.left, n.served, n.rest)
@@ -145,10 +117,10 @@ pub fn time_to_provide(curve: &[u32], amount: u32) -> Provided
     ensures { λ r. ⌜ Provides (now (curve .entry)) amount r ⌝ }
 {
     if amount == 0 {
-        return Provided::Refused(Ground::ArgumentZero);
+        return Provided::Refused(refused(Ground::ArgumentZero));
     }
     if !plain(curve) {
-        return Provided::Refused(Ground::NotPlain);
+        return Provided::Refused(refused(Ground::NotPlain));
     }
     let mut left = amount;
     let mut i: usize = 0;

@@ -1,3 +1,2 @@
 pub mod Texts
-pub mod Listed
 pub mod OneOutcome

@@ -5,7 +5,7 @@ use mathlib.Core.Path.{_≡_, sym, ap, _∙_}
 use mathlib.Core.List.{List}
 use Rattle.machine.specs.declared.State.{State}
 use Rattle.scheduling.proofs.Outcomes.{Same, same-all}
-use Rattle.exports.specs.Handing.{given}
+use Rattle.handing.specs.Handing.{given}
 use Rattle.exports.specs.Calls.{Adds, Cuts, Fits, Provides, Reads, Steps, Tells, Counted, Listed, Analyses, Reports}
 
 -- ---- curve calls and the report

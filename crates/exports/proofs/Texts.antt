@@ -6,33 +6,17 @@ use mathlib.Core.Bool.{Bool, true, false}
 use native.Mathlib.Omega.{arith}
 use borrow.Author.Tests.{eq-eqb, ne-eqb}
 use Rattle.table.specs.declared.Table.{Table}
-use Rattle.reading.specs.Reading.{numberOf, readingOf}
-use Rattle.reading.specs.declared.Fault.{Fault}
+use Rattle.reading.specs.Reading.{readingOf}
+use Rattle.refusals.specs.declared.Refusal.{Refusal}
 use Rattle.reading.specs.declared.Answer.{Answer}
 use Rattle.reading.specs.declared.Answer.the-variants.{Accepted, Refused}
-use Rattle.machine.specs.Machine.{accepts, stepOf}
+use Rattle.machine.specs.Machine.{stepOf}
 use Rattle.machine.specs.declared.State.{State}
 use Rattle.machine.specs.declared.Stepped.{Stepped}
-use Rattle.machine.proofs.Grounds.{step-refused, step-accepted}
-use Rattle.scheduling.proofs.Calls.{number-some}
-use Rattle.exports.specs.Handing.{given, answerNumber, answerLine, stepBy}
+use Rattle.reading.proofs.TurnedAway.{turned-away}
+use Rattle.handing.proofs.Given.{given-old, given-new}
+use Rattle.handing.specs.Handing.{given, answerNumber, answerLine, stepBy}
 use Rattle.exports.specs.Calls.{Reads, Steps}
-
--- a refusal: what was there before
-pub given-old : {A : Type 0} (number : ℕ) (new old : A) → ¬ (number ≡ 0) → old ≡ given number new old
-given-old number new old d = rw (ne-eqb number 0 d)
-
--- no refusal: what the call says
-given-new : {A : Type 0} (number : ℕ) (new old : A) → number ≡ 0 → new ≡ given number new old
-given-new number new old e = rw (eq-eqb number 0 e)
-
--- a step that is refused hands back the state it got
-pub refused-stays : (table : Table) (s : State) → ¬ (stepOf table s .number ≡ 0) → s ≡ stepOf table s .next
-refused-stays table s d = go (accepts table s) refl
-  where
-    go : (b : Bool) → accepts table s ≡ b → s ≡ stepOf table s .next
-    go true e = absurd (d (ap (λ (t : Stepped). t .number) (step-accepted table s e)))
-    go false e = sym (ap (λ (t : Stepped). t .next) (step-refused table s e))
 
 module _ (text : List ℕ) where
   -- ---- an accepted text
@@ -53,14 +37,14 @@ module _ (text : List ℕ) where
       }
 
   pub steps-accepted : (s : State) (holder runner : ℕ) {r line′ holder′ runner′ : ℕ} {after : State} → readingOf text .answer ≡ Accepted
-      → (r ≡ stepOf table s .number) × (line′ ≡ stepOf table s .line) × (after ≡ stepOf table s .next)
+      → (r ≡ stepOf table s .refusal .number) × (line′ ≡ stepOf table s .refusal .line) × (after ≡ stepOf table s .next)
       × (holder′ ≡ given r (stepOf table s .holder) holder) × (runner′ ≡ given r (stepOf table s .runner) runner)
       → Steps text s holder runner r line′ after holder′ runner′
   steps-accepted s holder runner {r} e h =
       let same = sym (ap (λ (a : Answer). stepBy a table s) e) in
       record {
-        number = h .0 ∙ ap (λ (t : Stepped). t .number) same;
-        in-line = h .1 ∙ ap (λ (t : Stepped). t .line) same;
+        number = h .0 ∙ ap (λ (t : Stepped). t .refusal .number) same;
+        in-line = h .1 ∙ ap (λ (t : Stepped). t .refusal .line) same;
         next = h .2 ∙ ap (λ (t : Stepped). t .next) same;
         holds = h .3 ∙ ap (λ (t : Stepped). given r (t .holder) holder) same;
         runs = h .4 ∙ ap (λ (t : Stepped). given r (t .runner) runner) same;
@@ -68,9 +52,9 @@ module _ (text : List ℕ) where
 
   -- ---- a refused text
 
-  module _ (fault : Fault) (refused : readingOf text .answer ≡ Refused fault) {r line′ : ℕ} (told : (r ≡ numberOf (fault .what)) × (line′ ≡ fault .line)) where
+  module _ (refusal : Refusal) (refused : readingOf text .answer ≡ Refused refusal) {r line′ : ℕ} (told : (r ≡ refusal .number) × (line′ ≡ refusal .line)) where
     some : ¬ (r ≡ 0)
-    some z = absurd (omega (arith, z, told .0, number-some (fault .what)))
+    some z = absurd (omega (arith, z, told .0, turned-away text refusal refused .number))
 
     pub reads-refused : (span servers tasks : ℕ) → Reads text span servers tasks r line′ span servers tasks
     reads-refused span servers tasks =
@@ -86,8 +70,8 @@ module _ (text : List ℕ) where
     steps-refused s holder runner =
         let same = sym (ap (λ (a : Answer). stepBy a table s) refused) in
         record {
-          number = told .0 ∙ ap (λ (t : Stepped). t .number) same;
-          in-line = told .1 ∙ ap (λ (t : Stepped). t .line) same;
+          number = told .0 ∙ ap (λ (t : Stepped). t .refusal .number) same;
+          in-line = told .1 ∙ ap (λ (t : Stepped). t .refusal .line) same;
           next = ap (λ (t : Stepped). t .next) same;
           holds = given-old _ _ _ some;
           runs = given-old _ _ _ some;

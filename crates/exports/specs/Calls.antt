@@ -4,14 +4,16 @@ use mathlib.Core.Path.{_≡_}
 use mathlib.Core.List.{List}
 use lib.IntN.{ℤ}
 use Rattle.windows.specs.Windows.{addUp, cutAt, fit}
-use Rattle.curves.specs.Refusals.{Lengths, addOutcome, cutOutcome, fitOutcome, provideOutcome, lent}
+use Rattle.curves.specs.Refusals.{Lengths, addOutcome, cutOutcome, fitOutcome, provideOutcome}
+use Rattle.refusals.specs.Outcomes.{lent}
 use Rattle.reading.specs.Reading.{readingOf}
 use Rattle.machine.specs.declared.State.{State}
-use Rattle.scheduling.specs.Buffers.{roomy, Buffers}
+use Rattle.opening.specs.Opening.{roomy}
+use Rattle.scheduling.specs.Buffers.{Buffers}
 use Rattle.scheduling.specs.Asking.{whoOf}
 use Rattle.scheduling.specs.Analysing.{analysisOf}
 use Rattle.reporting.specs.Reporting.{reportFor, reportOutcome}
-use Rattle.exports.specs.Handing.{numberIn, handed, instantOr0, given, answerNumber, answerLine, stepFor, fulls, shorts, kinds, responses, releases, margins}
+use Rattle.handing.specs.Handing.{numberIn, handed, instantOr0, given, answerNumber, answerLine, stepFor, fulls, shorts, kinds, responses, releases, margins}
 
 pub record Adds (a b out : List ℕ) (count r count′ : ℕ) (out′ : List ℕ) : Type 0 where
   pub number : r ≡ numberIn (addOutcome a b out)
@@ -45,16 +47,16 @@ pub record Reads (text : List ℕ) (span servers tasks r line′ span′ servers
 
 -- of a text and a state; the state is handed back, unchanged where the step is refused
 pub record Steps (text : List ℕ) (before : State) (holder runner r line′ : ℕ) (after : State) (holder′ runner′ : ℕ) : Type 0 where
-  pub number : r ≡ stepFor text before .number
-  pub in-line : line′ ≡ stepFor text before .line
+  pub number : r ≡ stepFor text before .refusal .number
+  pub in-line : line′ ≡ stepFor text before .refusal .line
   pub next : after ≡ stepFor text before .next
   pub holds : holder′ ≡ given r (stepFor text before .holder) holder
   pub runs : runner′ ≡ given r (stepFor text before .runner) runner
 
 -- who holds a tick: by the answer of the call on a text and a tick
 pub record Tells (text : List ℕ) (tick : ℕ) (a b c d e f : List ℕ) (holder runner r line′ holder′ runner′ : ℕ) (a′ b′ c′ d′ e′ f′ : List ℕ) : Type 0 where
-  pub number : r ≡ whoOf text tick (roomy a b c d e f) .number
-  pub in-line : line′ ≡ whoOf text tick (roomy a b c d e f) .line
+  pub number : r ≡ whoOf text tick (roomy a b c d e f) .refusal .number
+  pub in-line : line′ ≡ whoOf text tick (roomy a b c d e f) .refusal .line
   pub holds : holder′ ≡ given r (whoOf text tick (roomy a b c d e f) .holder) holder
   pub runs : runner′ ≡ given r (whoOf text tick (roomy a b c d e f) .runner) runner
   pub buffers : Buffers r a b c d e f a′ b′ c′ d′ e′ f′
@@ -75,8 +77,8 @@ pub record Listed : Type 0 where
 
 pub record Analyses (text : List ℕ) (a b c d e f : List ℕ) (n : Counted) (l : Listed) (r line′ : ℕ) (n′ : Counted) (l′ : Listed) (a′ b′ c′ d′ e′ f′ : List ℕ)
     : Type 0 where
-  pub number : r ≡ analysisOf text (roomy a b c d e f) .number
-  pub in-line : line′ ≡ analysisOf text (roomy a b c d e f) .line
+  pub number : r ≡ analysisOf text (roomy a b c d e f) .refusal .number
+  pub in-line : line′ ≡ analysisOf text (roomy a b c d e f) .refusal .line
   pub ticks : n′ .span ≡ given r (analysisOf text (roomy a b c d e f) .span) (n .span)
   pub servers-count : n′ .servers ≡ given r (analysisOf text (roomy a b c d e f) .«servers_n») (n .servers)
   pub tasks-count : n′ .tasks ≡ given r (analysisOf text (roomy a b c d e f) .«tasks_n») (n .tasks)

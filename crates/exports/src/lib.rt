@@ -1,18 +1,14 @@
 // The library's calls for programs in C: numbers, slices (a pointer and a length), and places to write to. Each answers 0, or the number of its
 // refusal; what it hands out is then left as it was, but for the line.
-mod listing;
-mod outcomes;
-mod tables;
-
-use listing::list_servers;
-use listing::list_tasks;
-use outcomes::hand_count;
-use outcomes::hand_counts;
-use outcomes::hand_instant;
+use handing::answered::hand_analysis;
+use handing::answered::hand_who;
+use handing::outcomes::hand_count;
+use handing::outcomes::hand_counts;
+use handing::outcomes::hand_instant;
+use handing::tables::hand_refusal;
+use handing::tables::hand_table;
+use handing::tables::step_table;
 use reading::Answer;
-use tables::hand_fault;
-use tables::hand_table;
-use tables::step_table;
 ghost use Rattle.exports.specs.Calls.{Adds, Cuts, Fits, Provides, Reads, Steps, Tells, Analyses, Reports};
 
 // Adds up two curves into a buffer, and hands out how many numbers were written.
@@ -79,7 +75,7 @@ pub extern "C" fn grod_read(
     let table = read.table;
     match answer {
         Answer::Accepted => hand_table(table, line, span, servers_n, tasks_n),
-        Answer::Refused(fault) => hand_fault(fault, line),
+        Answer::Refused(refusal) => hand_refusal(refusal, line),
     }
 }
 
@@ -103,7 +99,7 @@ pub extern "C" fn grod_step(
     let table = read.table;
     match answer {
         Answer::Accepted => step_table(table, tick, budgets, waiting, line, holder, runner),
-        Answer::Refused(fault) => hand_fault(fault, line),
+        Answer::Refused(refusal) => hand_refusal(refusal, line),
     }
 }
 
@@ -127,13 +123,7 @@ pub extern "C" fn grod_who_at(
         (now (sum .exit)) (now (part .exit)) (now (held .exit)) (now (running .exit)) (now (spare .exit)) ⌝ }
 {
     let who = scheduling::who_at(text, tick, free, sum, part, held, running, spare);
-    *line = who.line;
-    if who.number != 0 {
-        return who.number;
-    }
-    *holder = who.holder;
-    *runner = who.runner;
-    0
+    hand_who(who, line, holder, runner)
 }
 
 // Hands out the answers of all servers and tasks of a text's table.
@@ -179,18 +169,19 @@ pub extern "C" fn grod_analyse(
         (now (sum .exit)) (now (part .exit)) (now (held .exit)) (now (running .exit)) (now (spare .exit)) ⌝ }
 {
     let analysis = scheduling::analyse(text, free, sum, part, held, running, spare);
-    *line = analysis.line;
-    if analysis.number != 0 {
-        return analysis.number;
-    }
-    *span = analysis.span;
-    *servers_n = analysis.servers_n;
-    *tasks_n = analysis.tasks_n;
-    let servers = analysis.servers;
-    let tasks = analysis.tasks;
-    list_servers(servers, full, short);
-    list_tasks(tasks, kind, response, release, margin);
-    0
+    hand_analysis(
+        analysis,
+        line,
+        span,
+        servers_n,
+        tasks_n,
+        full,
+        short,
+        kind,
+        response,
+        release,
+        margin,
+    )
 }
 
 // Writes the report of a text to the front of a buffer, and hands out how many bytes it has.

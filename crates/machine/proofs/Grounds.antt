@@ -6,13 +6,14 @@ use native.Mathlib.Omega.{arith}
 use lib.ListN.{getD}
 use lib.Dec.{ltb}
 use borrow.Author.Tests.{lt-ltb, le-ltb, ltb-true, ltb-false}
-use Rattle.windows.specs.Windows.{pick}
+use Rattle.basics.specs.Choice.{pick}
 use Rattle.table.specs.Rules.{obeys}
 use Rattle.table.specs.declared.Table.{Table}
 use Rattle.machine.specs.declared.State.{State}
 use Rattle.machine.specs.declared.Stepped.{Stepped}
-use Rattle.machine.specs.Machine.{serverAt, firstOf, overBudget, overWork, noneOf, accepts, taken, refusal, stepOf}
-use Rattle.machine.proofs.Places.{First, first-is, none-at}
+use Rattle.table.specs.Places.{serverAt, firstOf, noneOf}
+use Rattle.machine.specs.Machine.{overBudget, overWork, accepts, taken, refusal, stepOf}
+use Rattle.table.proofs.Places.{First, first-is, none-at}
 use Rattle.machine.proofs.Stepping.{accepted-rules, accepted-tick, accepted-budgets, accepted-work}
 
 -- 13: "table breaks the rules above, or tick is H or more, or a budget above its C, or waiting work above 300,000,000"

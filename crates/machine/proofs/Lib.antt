@@ -1,6 +1,5 @@
-pub mod Places
+pub mod Beside
 pub mod States
-pub mod Obeyed
 pub mod Noting
 pub mod OneTick
 pub mod Stepping

@@ -10,11 +10,12 @@ use lib.ListN.{length, getD, set}
 use lib.Seq.{getD-set-same, getD-set-other}
 use lib.Dec.{ltb, eqb}
 use borrow.Author.Tests.{eq-eqb, ne-eqb}
-use Rattle.windows.specs.Windows.{pick}
+use Rattle.basics.specs.Choice.{pick}
 use Rattle.table.specs.Rules.{noTask}
 use Rattle.table.specs.declared.Table.{Table}
 use Rattle.machine.specs.declared.State.{State}
-use Rattle.machine.specs.Machine.{firstOf, waits}
+use Rattle.table.specs.Places.{firstOf}
+use Rattle.machine.specs.Machine.{waits}
 use Rattle.machine.specs.Parts.{Firsts, noted}
 
 -- the walk has come up to place j: what is noted for each server is its first task from there on

@@ -7,15 +7,17 @@ use native.Mathlib.Omega.{arith}
 use lib.ListN.{getD}
 use lib.Dec.{ltb}
 use borrow.Author.Tests.{ltb-true, ltb-false, le-ltb}
-use Rattle.windows.proofs.Ticks.{and-left, and-right}
+use Rattle.refusals.specs.Refusals.{noRefusal}
+use Rattle.basics.proofs.Tests.{and-left, and-right}
 use Rattle.table.specs.Rules.{obeys}
 use Rattle.table.specs.declared.Table.{Table}
 use Rattle.machine.specs.declared.State.{State}
 use Rattle.machine.specs.declared.Stepped.{Stepped}
-use Rattle.machine.specs.Machine.{serverAt, holderOf, runnerOf, spends, runs, ready, holder, runner, later, next, overBudget, overWork, noneOf, accepts, stepOf}
-use Rattle.machine.specs.Parts.{Obeyed, Firsts, entryOf, Has}
-use Rattle.machine.proofs.Places.{none-at, none-of}
-use Rattle.machine.proofs.Obeyed.{servers-most, tasks-most}
+use Rattle.table.specs.Places.{serverAt, noneOf, Obeyed}
+use Rattle.machine.specs.Machine.{holderOf, runnerOf, spends, runs, ready, holder, runner, later, next, overBudget, overWork, accepts, stepOf}
+use Rattle.machine.specs.Parts.{Firsts, entryOf, Has}
+use Rattle.table.proofs.Places.{none-at, none-of}
+use Rattle.table.proofs.Obeyed.{servers-most, tasks-most}
 use Rattle.machine.proofs.OneTick.{Full, next-budget, refilled-most, holder-server, holder-budget, runner-task, runner-work}
 
 -- ---- what a step that is not refused shows
@@ -66,7 +68,7 @@ module _ (table : Table) (ok : Obeyed table) (s : State) where
 -- ---- the whole step
 
 pub step-taken : (table : Table) (s x r : State) (h k : ℕ) → accepts table s ≡ true → r ≡ ready table s → h ≡ holderOf table r → k ≡ runnerOf table r h
-    → x ≡ runs k (spends h r) → _≡_ {A = Stepped} (record { number = 0; line = 0; next = later x; holder = h; runner = k }) (stepOf table s)
+    → x ≡ runs k (spends h r) → _≡_ {A = Stepped} (record { refusal = noRefusal; next = later x; holder = h; runner = k }) (stepOf table s)
 unfolding stepOf next holder runner
 step-taken table s x r h k a b c d e = rw (a, e, d, c, b)
 

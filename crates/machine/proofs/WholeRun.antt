@@ -8,19 +8,21 @@ use native.Mathlib.Decide.{ℕ-discrete}
 use lib.ListN.{getD, getD-replicate}
 use lib.Dec.{eqb}
 use borrow.Author.Tests.{lt-ltb, le-ltb, eq-eqb, ne-eqb, eqb-true}
-use Rattle.windows.specs.Windows.{pick, upto}
+use Rattle.refusals.specs.Refusals.{noRefusal}
+use Rattle.basics.specs.Choice.{pick}
+use Rattle.windows.specs.Windows.{upto}
 use Rattle.windows.specs.Servers.{soFar}
 use Rattle.windows.proofs.Capacity.{so-far-first, so-far-next}
 use Rattle.table.specs.declared.Kind.the-variants.{Deferrable}
 use Rattle.table.specs.declared.Server.{Server}
 use Rattle.table.specs.declared.Table.{Table}
-use Rattle.machine.specs.Machine.{serverAt, taskAt, refilled, gains, ready, holder, runner, next, overBudget, overWork, noneOf, accepts, stepOf}
+use Rattle.table.specs.Places.{serverAt, taskAt, noneOf, Obeyed}
+use Rattle.machine.specs.Machine.{refilled, ready, holder, runner, next, overBudget, overWork, accepts, stepOf}
+use Rattle.table.specs.Releases.{gains}
 use Rattle.machine.specs.Run.{stateBefore, holderAt, runnerAt, holds, runsIn}
-use Rattle.machine.proofs.Places.{none-of}
-use Rattle.machine.specs.Parts.{Obeyed}
-use Rattle.machine.proofs.Obeyed.{servers-most, tasks-most, span-most, server-period, task-work, gains-most}
-use Rattle.machine.proofs.OneTick.{Full, ready-budget, ready-waiting, next-budget, next-waiting, next-full}
-use Rattle.machine.proofs.OneTick.{holder-budget, deferrable-runs, runner-server, runner-work}
+use Rattle.table.proofs.Places.{none-of}
+use Rattle.table.proofs.Obeyed.{servers-most, tasks-most, span-most, server-period, task-work, gains-most}
+use Rattle.machine.proofs.OneTick.{Full, ready-budget, ready-waiting, next-budget, next-waiting, next-full, holder-budget, deferrable-runs, runner-server, runner-work}
 
 -- ---- the mark of a place: 1 where the number is its own
 
@@ -201,6 +203,6 @@ module _ (table : Table) (ok : Obeyed table) where
       rw (ok .rules, k, budgets-fit t, work-fits t (omega (arith, span-most table ok)))
 
   pub run-steps : (t : ℕ) → t < table .span
-      → stepOf table (stateBefore table t) ≡ record { number = 0; line = 0; next = stateBefore table (suc t); holder = holderAt table t; runner = runnerAt table t }
+      → stepOf table (stateBefore table t) ≡ record { refusal = noRefusal; next = stateBefore table (suc t); holder = holderAt table t; runner = runnerAt table t }
   unfolding stepOf stateBefore
   run-steps t h = rw (run-accepts t h)

@@ -4,7 +4,9 @@ use mathlib.Core.List.{List, [], _∷_}
 use mathlib.Core.Bool.{Bool, true, false, _&&_, _||_}
 use lib.ListN.{getD, set}
 use lib.Dec.{ltb, leb, eqb}
-use Rattle.windows.specs.Windows.{pick}
+use Rattle.table.specs.Places.{serverAt, taskAt, firstOf, noneOf}
+use Rattle.table.specs.Releases.{gains}
+use Rattle.basics.specs.Choice.{pick}
 use Rattle.table.specs.Rules.{noServer, noTask, serversOf, tasksOf, obeys}
 use Rattle.table.specs.declared.Kind.{Kind}
 use Rattle.table.specs.declared.Kind.the-variants.{Deferrable, Periodic}
@@ -13,15 +15,10 @@ use Rattle.table.specs.declared.Release.the-variants.{Once, Every}
 use Rattle.table.specs.declared.Server.{Server}
 use Rattle.table.specs.declared.Task.{Task}
 use Rattle.table.specs.declared.Table.{Table}
+use Rattle.refusals.specs.Refusals.{noRefusal, refusedFor}
+use Rattle.refusals.specs.declared.Ground.the-variants.{OutOfStep}
 use Rattle.machine.specs.declared.State.{State}
 use Rattle.machine.specs.declared.Stepped.{Stepped}
-
--- the entries at a place
-abbrev pub serverAt : Table → ℕ → Server
-serverAt table i = getD (table .servers) i noServer
-
-abbrev pub taskAt : Table → ℕ → Task
-taskAt table j = getD (table .tasks) j noTask
 
 -- what stands beside each entry is made anew from both; "those of the state pass through" beyond the last entry
 unfoldable pub along : {A : Type 0} → (A → ℕ → ℕ) → List A → List ℕ → List ℕ
@@ -39,14 +36,6 @@ refills table s = record { tick = s .tick; budgets = along (refilled (s .tick)) 
 
 -- ---- "(2) each task with a release at t gains its work"
 
--- "once, at its instant, or at its offset and every period after it"
-abbrev pub releasedAt : Release → ℕ → Bool
-releasedAt (Once instant) t = eqb t instant
-releasedAt (Every offset period) t = leb offset t && eqb ((t - offset) % period) 0
-
-abbrev pub gains : Task → ℕ → ℕ
-gains task t = pick (releasedAt (task .release) t) (task .work) 0
-
 abbrev pub gained : ℕ → Task → ℕ → ℕ
 gained t task waiting = waiting + gains task t
 
@@ -54,11 +43,6 @@ abbrev pub releases : Table → State → State
 releases table s = record { tick = s .tick; budgets = s .budgets; waiting = along (gained (s .tick)) (tasksOf table) (s .waiting) }
 
 -- ---- "(3) the first server that has budget left, and is periodic or has waiting work, holds the tick"
-
--- the number of the first place, of the k from i on, that passes a test; 0 if none does
-unfoldable pub firstOf : (ℕ → Bool) → ℕ → ℕ → ℕ
-firstOf p zero i = 0
-firstOf p (suc k) i = pick (p i) (suc i) (firstOf p k (suc i))
 
 -- the task at place j is one of the server and has waiting work
 abbrev pub waits : Table → State → ℕ → ℕ → Bool
@@ -131,10 +115,6 @@ overBudget table s i = ltb (serverAt table i .capacity) (getD (s .budgets) i 0)
 abbrev pub overWork : State → ℕ → Bool
 overWork s j = ltb 300000000 (getD (s .waiting) j 0)
 
--- no place below n passes the test
-abbrev pub noneOf : (ℕ → Bool) → ℕ → Bool
-noneOf p n = eqb (firstOf p n 0) 0
-
 -- none of the grounds of 13: "table breaks the rules above, or tick is H or more, or a budget above its C, or waiting work above 300,000,000"
 unfoldable pub accepts : Table → State → Bool
 accepts table s =
@@ -143,11 +123,11 @@ accepts table s =
 
 -- "returns the next state, the holding server and the running task"
 abbrev pub taken : Table → State → Stepped
-taken table s = record { number = 0; line = 0; next = next table s; holder = holder table s; runner = runner table s }
+taken table s = record { refusal = noRefusal; next = next table s; holder = holder table s; runner = runner table s }
 
 -- "a refused step also hands back the state it got, with 0 for server and task"
 abbrev pub refusal : State → Stepped
-refusal s = record { number = 13; line = 0; next = s; holder = 0; runner = 0 }
+refusal s = record { refusal = refusedFor OutOfStep; next = s; holder = 0; runner = 0 }
 
 unfoldable pub stepOf : Table → State → Stepped
 stepOf table s = pick (accepts table s) (taken table s) (refusal s)

@@ -5,17 +5,11 @@ use mathlib.Core.List.{List}
 use mathlib.Core.Bool.{true}
 use lib.ListN.{length, getD}
 use lib.Dec.{ltb}
-use Rattle.windows.specs.Windows.{pick}
+use Rattle.basics.specs.Choice.{pick}
 use Rattle.table.specs.Rules.{obeys}
 use Rattle.table.specs.declared.Table.{Table}
 use Rattle.machine.specs.declared.State.{State}
 use Rattle.machine.specs.Machine.{firstTask}
-
--- a table that obeys the rules and has all the entries that it counts
-pub record Obeyed (table : Table) : Type 0 where
-  pub rules : obeys table ≡ true
-  pub servers : table .«servers_n» ≤ length (table .servers)
-  pub tasks : table .«tasks_n» ≤ length (table .tasks)
 
 -- each server's first task with waiting work, by its place
 abbrev pub Firsts : Table → State → List ℕ → Type 0

@@ -5,6 +5,9 @@ mod refusing;
 mod releasing;
 mod running;
 
+use refusals::Ground;
+use refusals::Refusal;
+use refusals::no_refusal;
 use table::Table;
 ghost use mathlib.Core.Path.{_≡_};
 ghost use Rattle.machine.specs.Machine.{refusal, stepOf};
@@ -17,10 +20,9 @@ pub struct State {
     pub waiting: [u32; 64],
 }
 
-// What a step answers. Number and line are 0 unless it was refused; holder and runner are 0 for none.
+// What a step answers, or its refusal; holder and runner are 0 for none.
 pub struct Stepped {
-    pub number: u32,
-    pub line: u32,
+    pub refusal: Refusal,
     pub next: State,
     pub holder: u32,
     pub runner: u32,
@@ -40,9 +42,9 @@ pub fn start() -> State
 fn refused(state: State) -> Stepped
     ensures { λ r. ⌜ r ≡ refusal state ⌝ }
 {
+    let refusal = refusals::refused(Ground::OutOfStep);
     Stepped {
-        number: 13,
-        line: 0,
+        refusal,
         next: state,
         holder: 0,
         runner: 0,
@@ -65,9 +67,9 @@ impl State {
         let spent = running::spend(ready, holder);
         let mut next = running::run(spent, runner);
         next.tick = next.tick + 1;
+        let refusal = no_refusal();
         Stepped {
-            number: 0,
-            line: 0,
+            refusal,
             next,
             holder,
             runner,

@@ -5,7 +5,8 @@ use table::Table;
 ghost use mathlib.Core.Path.{_≡_};
 ghost use Prim.Native.Nat.{_≤_};
 ghost use Rattle.machine.specs.Machine.{isPeriodic, mayHold, holderOf};
-ghost use Rattle.machine.specs.Parts.{Obeyed, Firsts, noted, entryOf};
+ghost use Rattle.table.specs.Places.{Obeyed};
+ghost use Rattle.machine.specs.Parts.{Firsts, noted, entryOf};
 
 // The first task seen so far, going up the table, once a task with so much waiting work is looked at.
 fn note(waiting: u32, number: u32, seen: u32) -> u32

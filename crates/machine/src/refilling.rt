@@ -5,7 +5,7 @@ use table::Table;
 ghost use mathlib.Core.Path.{_≡_};
 ghost use Prim.Native.Nat.{_<_};
 ghost use Rattle.machine.specs.Machine.{refilled, refills};
-ghost use Rattle.machine.specs.Parts.{Obeyed};
+ghost use Rattle.table.specs.Places.{Obeyed};
 
 // A server's budget once the tick's refill is done.
 fn budget_at(server: Server, tick: u32, budget: u32) -> u32

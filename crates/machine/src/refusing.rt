@@ -4,7 +4,8 @@ use table::Table;
 use table::obeys_rules;
 ghost use mathlib.Core.Path.{_≡_};
 ghost use Prim.Native.Nat.{_≤_};
-ghost use Rattle.machine.specs.Machine.{noneOf, overBudget, overWork, accepts};
+ghost use Rattle.table.specs.Places.{noneOf};
+ghost use Rattle.machine.specs.Machine.{overBudget, overWork, accepts};
 
 // Whether no server's budget is above its capacity.
 fn budgets_within(state: State, table: Table) -> bool

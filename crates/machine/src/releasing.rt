@@ -6,8 +6,9 @@ use table::Task;
 ghost use mathlib.Core.Path.{_≡_};
 ghost use mathlib.Core.Bool.{true};
 ghost use Rattle.table.specs.Rules.{releaseObeys};
-ghost use Rattle.machine.specs.Machine.{releasedAt, gains, releases, noneOf, overWork};
-ghost use Rattle.machine.specs.Parts.{Obeyed};
+ghost use Rattle.table.specs.Releases.{releasedAt, gains};
+ghost use Rattle.machine.specs.Machine.{releases, overWork};
+ghost use Rattle.table.specs.Places.{noneOf, Obeyed};
 
 // Whether a release falls on a tick.
 fn falls_on(release: Release, tick: u32) -> bool

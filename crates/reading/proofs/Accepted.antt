@@ -7,21 +7,21 @@ use native.Mathlib.Omega.{arith}
 use lib.ListN.{length}
 use lib.Dec.{ltb, leb, eqb}
 use borrow.Author.Tests.{ltb-true, eqb-false, le-leb, lt-leb}
-use Rattle.windows.specs.Windows.{pick}
-use Rattle.windows.proofs.Ticks.{and-left, and-right}
+use Rattle.basics.specs.Choice.{pick}
+use Rattle.basics.proofs.Tests.{and-left, and-right}
 use Rattle.table.specs.Rules.{all, between, inTicks, serverObeys, taskObeys, obeys, serversOf, tasksOf}
 use Rattle.table.specs.Span.{periodsOf, spanOf}
 use Rattle.table.proofs.Spans.{SearchSays, span-says}
 use Rattle.table.specs.declared.Table.{Table}
 use Rattle.table.specs.declared.Span.{Span}
 use Rattle.table.specs.declared.Span.the-variants.{Ticks, Over}
-use Rattle.reading.specs.Fields.{linesOf}
-use Rattle.reading.specs.Lines.{lineOf}
+use Rattle.fields.specs.Fields.{linesOf}
+use Rattle.lines.specs.Lines.{lineOf}
 use Rattle.reading.specs.Reading.{noTable, refusal, accepted, withSpan, resolved, endedOf, afterLine, readLines, endsWithFeed, readingOf}
 use Rattle.reading.specs.Pieces.{withLine}
-use Rattle.reading.specs.declared.What.the-variants as what
-use Rattle.reading.specs.declared.Line.{Line}
-use Rattle.reading.specs.declared.Line.the-variants.{SpanIs, ServerIs, TaskIs, Wrong}
+use Rattle.refusals.specs.declared.Ground.the-variants as what
+use Rattle.lines.specs.declared.Line.{Line}
+use Rattle.lines.specs.declared.Line.the-variants.{SpanIs, ServerIs, TaskIs, Wrong}
 use Rattle.reading.specs.declared.Answer.{Answer}
 use Rattle.reading.specs.declared.Answer.the-variants.{Accepted, Refused}
 use Rattle.reading.specs.declared.Reading.{Reading}

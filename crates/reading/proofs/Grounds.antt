@@ -7,7 +7,7 @@ use mathlib.Core.Bool.{Bool, true, false, _&&_}
 use lib.ListN.{length}
 use lib.Dec.{ltb, leb, eqb}
 use borrow.Author.Tests.{eqb-true, eqb-false}
-use Rattle.windows.specs.Windows.{pick}
+use Rattle.basics.specs.Choice.{pick}
 use Rattle.table.specs.Rules.{all, between, inTicks, serversOf, tasksOf}
 use Rattle.table.specs.Span.{periodsOf, spanOf}
 use Rattle.table.specs.declared.Table.{Table}
@@ -15,20 +15,20 @@ use Rattle.table.specs.declared.Kind.{Kind}
 use Rattle.table.specs.declared.Kind.the-variants.{Deferrable, Periodic}
 use Rattle.table.specs.declared.Span.{Span}
 use Rattle.table.specs.declared.Span.the-variants.{Ticks, Over}
-use Rattle.reading.specs.Fields.{fieldsOf, fieldAt, sameBytes, dash, deferrableWord, periodicWord, wordOf, isDigit, digitsFrom, startsWithZero, fieldNumber}
-use Rattle.reading.specs.Lines.{field, ranged, counted, spanLine, kindOf, kindField, serverIs, serverLine, onceIs, onceLine, deadlineOf, everyIs, everyLine, byWord, lineOf}
+use Rattle.fields.specs.Fields.{fieldsOf, fieldAt, sameBytes, dash, deferrableWord, periodicWord, wordOf, isDigit, digitsFrom, startsWithZero, fieldNumber}
+use Rattle.lines.specs.Lines.{field, ranged, counted, spanLine, kindOf, kindField, serverIs, serverLine, onceIs, onceLine, deadlineOf, everyIs, everyLine, byWord, lineOf}
 use Rattle.reading.specs.Reading.{refusal, accepted, withSpan, resolved, endedOf, afterLine, readLines}
 use Rattle.reading.specs.Pieces.{withLine, goesOn}
-use Rattle.reading.specs.declared.What.{What}
-use Rattle.reading.specs.declared.What.the-variants as what
-use Rattle.reading.specs.declared.Word.{Word}
-use Rattle.reading.specs.declared.Word.the-variants as word
-use Rattle.reading.specs.declared.Number.{Number}
-use Rattle.reading.specs.declared.Number.the-variants as number
-use Rattle.reading.specs.declared.KindField.{KindField}
-use Rattle.reading.specs.declared.KindField.the-variants as kind
-use Rattle.reading.specs.declared.Line.{Line}
-use Rattle.reading.specs.declared.Line.the-variants.{SpanIs, ServerIs, TaskIs, Wrong}
+use Rattle.refusals.specs.declared.Ground.{Ground}
+use Rattle.refusals.specs.declared.Ground.the-variants as what
+use Rattle.fields.specs.declared.Word.{Word}
+use Rattle.fields.specs.declared.Word.the-variants as word
+use Rattle.fields.specs.declared.Number.{Number}
+use Rattle.fields.specs.declared.Number.the-variants as number
+use Rattle.lines.specs.declared.KindField.{KindField}
+use Rattle.lines.specs.declared.KindField.the-variants as kind
+use Rattle.lines.specs.declared.Line.{Line}
+use Rattle.lines.specs.declared.Line.the-variants.{SpanIs, ServerIs, TaskIs, Wrong}
 use Rattle.reading.specs.declared.Reading.{Reading}
 
 -- ---- the ways in which lines, behind a table and with the first of them line n, come to their reading
@@ -41,7 +41,7 @@ said t n l = lineOf n (t .«servers_n») (t .«tasks_n») l
 
 pub data Because : List (List ℕ) → Table → ℕ → Reading → Type 0 where
   -- line n is wrong: its number, its line
-  wrong : {l : List ℕ} {ls : List (List ℕ)} {t : Table} {n place : ℕ} {w : What} → said t n l ≡ Wrong w place → Because (l ∷ ls) t n (refusal w n place)
+  wrong : {l : List ℕ} {ls : List (List ℕ)} {t : Table} {n place : ℕ} {w : Ground} → said t n l ≡ Wrong w place → Because (l ∷ ls) t n (refusal w n place)
   -- line n is right, and the rest decides
   further : {l : List ℕ} {ls : List (List ℕ)} {t : Table} {n : ℕ} {r : Reading} → goesOn (said t n l) ≡ true → Because ls (withLine t (said t n l)) (n + 1) r → Because (l ∷ ls) t n r
   -- all lines are right, and there is no server or no task: 3, on the line after the last
@@ -109,7 +109,7 @@ module _ (w : Word) (n servers tasks : ℕ) (line : List ℕ) where
     pub count : length (fieldsOf line) ≡ fieldCount w
 
   -- 5: the field at a place is refused
-  pub record BadField (x : What) (place : ℕ) : Type 0 where
+  pub record BadField (x : Ground) (place : ℕ) : Type 0 where
     pub counted : Counted
     pub field : (fieldNumber (fieldAt line place) ≡ number.Bad x) ⊎ (kindOf (fieldAt line place) ≡ kind.Bad x)
 
@@ -125,7 +125,7 @@ module _ (w : Word) (n servers tasks : ℕ) (line : List ℕ) where
     period-out : {p : ℕ} → fieldNumber (fieldAt line 5) ≡ number.Value p → inTicks p ≡ false → Outside 5
     deadline-out : (p : ℕ) {d : ℕ} → deadlineOf (fieldAt line 6) p ≡ number.Value d → inTicks d ≡ false → Outside 6
 
-  abbrev pub GroundOf : What → ℕ → Type 0
+  abbrev pub GroundOf : Ground → ℕ → Type 0
   GroundOf what.TextTooLong place = ⊥
   GroundOf what.NotEnded place = ⊥
   GroundOf what.Misplaced place = inPlace w n servers tasks ≡ false
@@ -140,6 +140,11 @@ module _ (w : Word) (n servers tasks : ℕ) (line : List ℕ) where
   GroundOf what.UnknownKind place = BadField what.UnknownKind place
   GroundOf what.OutOfRange place = Counted × Outside place
   GroundOf what.MultipleOver place = ⊥
+  GroundOf what.WorkRoom place = ⊥
+  GroundOf what.NotPlain place = ⊥
+  GroundOf what.NoRoom place = ⊥
+  GroundOf what.ArgumentZero place = ⊥
+  GroundOf what.OutOfStep place = ⊥
 
   abbrev pub Grounded : Line → Type 0
   Grounded (SpanIs h) = Unit {0}
@@ -148,7 +153,7 @@ module _ (w : Word) (n servers tasks : ℕ) (line : List ℕ) where
   Grounded (Wrong x place) = GroundOf x place
 
   -- what a field can be refused for
-  data OfField : What → Type 0 where
+  data OfField : Ground → Type 0 where
     empty : OfField what.Empty
     dash-there : OfField what.Dash
     no-digit : OfField what.NoDigit
@@ -156,7 +161,7 @@ module _ (w : Word) (n servers tasks : ℕ) (line : List ℕ) where
     many-digits : OfField what.TooManyDigits
     unknown-kind : OfField what.UnknownKind
 
-  field-ground : {x : What} (place : ℕ) → OfField x → BadField x place → Grounded (Wrong x place)
+  field-ground : {x : Ground} (place : ℕ) → OfField x → BadField x place → Grounded (Wrong x place)
   field-ground place empty b = b
   field-ground place dash-there b = b
   field-ground place no-digit b = b

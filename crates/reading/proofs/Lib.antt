@@ -1,7 +1,5 @@
-pub mod Bytes
-pub mod Splits
-pub mod Spoken
 pub mod Rows
 pub mod Accepted
 pub mod Grounds
 pub mod Why
+pub mod TurnedAway

@@ -10,27 +10,28 @@ use lib.ListN.{length, getD, take, drop, set, length-drop, length-set, drop-of-l
 use lib.Seq.{take-suc-set, getD-drop}
 use lib.Dec.{ltb, leb, eqb}
 use borrow.Author.Tests.{ltb-true, leb-true, eqb-true, eq-eqb, ne-eqb}
-use Rattle.windows.specs.Windows.{pick}
-use Rattle.windows.proofs.Ticks.{and-left, and-right}
+use Rattle.basics.specs.Choice.{pick}
+use Rattle.basics.proofs.Tests.{and-left, and-right}
 use Rattle.table.specs.Rules.{all, between, inTicks, serverObeys, releaseObeys, taskObeys, serversOf, tasksOf}
 use Rattle.table.specs.declared.Server.{Server}
 use Rattle.table.specs.declared.Task.{Task}
 use Rattle.table.specs.declared.Table.{Table}
 use Rattle.table.specs.declared.Kind.{Kind}
-use Rattle.reading.specs.Fields.{split, allButLast, linesOf, fieldsOf, fieldAt, sameBytes, dash, wordOf, fieldNumber}
-use Rattle.reading.specs.Lines.{field, ranged, counted, spanLine, kindOf, kindField, serverIs, serverLine, onceIs, onceLine, deadlineOf, everyIs, everyLine, placed, fewer, byWord, lineOf}
+use Rattle.fields.specs.Fields.{split, allButLast, linesOf, fieldsOf, fieldAt, sameBytes, dash, wordOf, fieldNumber}
+use Rattle.lines.specs.Lines.{field, ranged, counted, spanLine, kindOf, kindField, serverIs, serverLine, onceIs, onceLine, deadlineOf, everyIs, everyLine, placed, fewer, byWord, lineOf}
 use Rattle.reading.specs.Reading.{noTable, withSpan, withServer, withTask, endedOf, afterLine, readLines}
 use Rattle.reading.specs.declared.Reading.{Reading}
-use Rattle.reading.specs.Pieces.{firstLength, Room, withLine, goesOn, refusedLine, Feeds}
-use Rattle.reading.specs.declared.Word.{Word}
-use Rattle.reading.specs.declared.Word.the-variants as word
-use Rattle.reading.specs.declared.Number.{Number}
-use Rattle.reading.specs.declared.Number.the-variants as number
-use Rattle.reading.specs.declared.KindField.{KindField}
-use Rattle.reading.specs.declared.KindField.the-variants as kind
-use Rattle.reading.specs.declared.Line.{Line}
-use Rattle.reading.specs.declared.Line.the-variants.{SpanIs, ServerIs, TaskIs, Wrong}
-use Rattle.reading.proofs.Splits.{split-first, pieces-some}
+use Rattle.fields.specs.Pieces.{firstLength}
+use Rattle.reading.specs.Pieces.{Room, withLine, goesOn, refusedLine, Feeds}
+use Rattle.fields.specs.declared.Word.{Word}
+use Rattle.fields.specs.declared.Word.the-variants as word
+use Rattle.fields.specs.declared.Number.{Number}
+use Rattle.fields.specs.declared.Number.the-variants as number
+use Rattle.lines.specs.declared.KindField.{KindField}
+use Rattle.lines.specs.declared.KindField.the-variants as kind
+use Rattle.lines.specs.declared.Line.{Line}
+use Rattle.lines.specs.declared.Line.the-variants.{SpanIs, ServerIs, TaskIs, Wrong}
+use Rattle.fields.proofs.Splits.{split-first, pieces-some}
 
 -- ---- what a line can say, behind so many servers and tasks
 

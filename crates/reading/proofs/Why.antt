@@ -6,16 +6,16 @@ use mathlib.Core.Bool.{Bool, true, false, true≢false}
 use lib.ListN.{length}
 use lib.Dec.{leb, eqb}
 use borrow.Author.Tests.{leb-true, leb-false, ne-eqb}
-use Rattle.windows.specs.Windows.{pick}
+use Rattle.basics.specs.Choice.{pick}
 use Rattle.table.specs.Rules.{serversOf, tasksOf}
 use Rattle.table.specs.Span.{periodsOf, spanOf}
 use Rattle.table.specs.declared.Table.{Table}
-use Rattle.reading.specs.Fields.{linesOf}
+use Rattle.fields.specs.Fields.{linesOf}
 use Rattle.reading.specs.Reading.{refusal, accepted, resolved, noTable, endsWithFeed, afterLine, readLines, readingOf}
 use Rattle.reading.specs.Pieces.{withLine, goesOn}
-use Rattle.reading.specs.declared.What.the-variants as what
-use Rattle.reading.specs.declared.Line.{Line}
-use Rattle.reading.specs.declared.Line.the-variants.{SpanIs, ServerIs, TaskIs, Wrong}
+use Rattle.refusals.specs.declared.Ground.the-variants as what
+use Rattle.lines.specs.declared.Line.{Line}
+use Rattle.lines.specs.declared.Line.the-variants.{SpanIs, ServerIs, TaskIs, Wrong}
 use Rattle.reading.specs.declared.Reading.{Reading}
 use Rattle.reading.proofs.Grounds.{Because, wrong, further, missing, over, common, whole, both, said, lines-because}
 use Rattle.reading.proofs.Accepted.{too-long, not-ended, by-lines}

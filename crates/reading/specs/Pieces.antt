@@ -5,31 +5,17 @@ use mathlib.Core.Bool.{Bool, true, false}
 use mathlib.Core.List.{List, [], _∷_}
 use lib.ListN.{length, getD}
 use lib.Dec.{eqb}
-use Rattle.windows.specs.Windows.{pick}
+use Rattle.basics.specs.Choice.{pick}
 use Rattle.table.specs.declared.Table.{Table}
-use Rattle.reading.specs.declared.What.the-variants.{Empty, Misplaced}
-use Rattle.reading.specs.declared.Number.{Number}
-use Rattle.reading.specs.declared.Number.the-variants as number
-use Rattle.reading.specs.declared.KindField.{KindField}
-use Rattle.reading.specs.declared.KindField.the-variants as kind
-use Rattle.reading.specs.declared.Line.{Line}
-use Rattle.reading.specs.declared.Line.the-variants.{SpanIs, ServerIs, TaskIs, Wrong}
+use Rattle.refusals.specs.declared.Ground.the-variants.{Empty, Misplaced}
+use Rattle.fields.specs.declared.Number.{Number}
+use Rattle.fields.specs.declared.Number.the-variants as number
+use Rattle.lines.specs.declared.KindField.{KindField}
+use Rattle.lines.specs.declared.KindField.the-variants as kind
+use Rattle.lines.specs.declared.Line.{Line}
+use Rattle.lines.specs.declared.Line.the-variants.{SpanIs, ServerIs, TaskIs, Wrong}
 use Rattle.reading.specs.Reading.{refusal, withSpan, withServer, withTask}
 use Rattle.reading.specs.declared.Reading.{Reading}
-
--- how many bytes lie before the first separator, or all of them
-unfoldable pub firstLength : ℕ → List ℕ → ℕ
-firstLength sep [] = 0
-firstLength sep (b ∷ r) = pick (eqb b sep) 0 (suc (firstLength sep r))
-
--- the answer of a field that is refused; one that is not never asks
-abbrev pub wrongOf : Number → ℕ → Line
-wrongOf (number.Bad what) place = Wrong what place
-wrongOf (number.Value n) place = Wrong Empty place
-
-abbrev pub wrongKindOf : KindField → ℕ → Line
-wrongKindOf (kind.Bad what) place = Wrong what place
-wrongKindOf (kind.Is k) place = Wrong Empty place
 
 -- there is a place for what a line says
 abbrev pub Room : Table → Line → Type 0

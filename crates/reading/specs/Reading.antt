@@ -4,7 +4,7 @@ use mathlib.Core.List.{List, [], _∷_}
 use mathlib.Core.Bool.{Bool, true, false, _&&_}
 use lib.ListN.{length, getD, set, replicate}
 use lib.Dec.{ltb, leb, eqb}
-use Rattle.windows.specs.Windows.{pick}
+use Rattle.basics.specs.Choice.{pick}
 use Rattle.table.specs.Rules.{noServer, noTask, serversOf, tasksOf}
 use Rattle.table.specs.Span.{periodsOf, spanOf}
 use Rattle.table.specs.declared.Server.{Server}
@@ -12,39 +12,23 @@ use Rattle.table.specs.declared.Task.{Task}
 use Rattle.table.specs.declared.Table.{Table}
 use Rattle.table.specs.declared.Span.{Span}
 use Rattle.table.specs.declared.Span.the-variants.{Ticks, Over}
-use Rattle.reading.specs.Fields.{linesOf}
-use Rattle.reading.specs.Lines.{lineOf}
-use Rattle.reading.specs.declared.What.{What}
-use Rattle.reading.specs.declared.What.the-variants as what
-use Rattle.reading.specs.declared.Line.{Line}
-use Rattle.reading.specs.declared.Line.the-variants.{SpanIs, ServerIs, TaskIs, Wrong}
+use Rattle.fields.specs.Fields.{linesOf}
+use Rattle.lines.specs.Lines.{lineOf}
+use Rattle.refusals.specs.Refusals.{refusedAt}
+use Rattle.refusals.specs.declared.Ground.{Ground}
+use Rattle.refusals.specs.declared.Ground.the-variants as what
+use Rattle.lines.specs.declared.Line.{Line}
+use Rattle.lines.specs.declared.Line.the-variants.{SpanIs, ServerIs, TaskIs, Wrong}
 use Rattle.reading.specs.declared.Answer.{Answer}
 use Rattle.reading.specs.declared.Answer.the-variants.{Accepted, Refused}
 use Rattle.reading.specs.declared.Reading.{Reading}
-
--- 01's number for each thing that can be wrong
-abbrev pub numberOf : What → ℕ
-numberOf what.TextTooLong = 1
-numberOf what.NotEnded = 2
-numberOf what.Misplaced = 3
-numberOf what.Missing = 3
-numberOf what.FieldCount = 4
-numberOf what.Empty = 5
-numberOf what.Dash = 5
-numberOf what.NoDigit = 5
-numberOf what.LeadingZero = 5
-numberOf what.TooManyDigits = 5
-numberOf what.UnknownKind = 5
-numberOf what.OutOfRange = 6
-numberOf what.TooMany = 7
-numberOf what.MultipleOver = 8
 
 -- the table before its first line; a span of 0 is not known yet
 abbrev pub noTable : Table
 noTable = record { span = 0; «servers_n» = 0; «tasks_n» = 0; servers = replicate 16 noServer; tasks = replicate 64 noTask }
 
-abbrev pub refusal : What → ℕ → ℕ → Reading
-refusal w line place = record { answer = Refused (record { what = w; line = line; place = place }); table = noTable }
+abbrev pub refusal : Ground → ℕ → ℕ → Reading
+refusal g line place = record { answer = Refused (refusedAt g line place); table = noTable }
 
 abbrev pub accepted : Table → Reading
 accepted t = record { answer = Accepted; table = t }

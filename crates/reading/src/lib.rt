@@ -1,9 +1,10 @@
 // Reading: from a table's text to the table, or to what is wrong with it, in which line and at which place.
-mod fields;
-mod lines;
-
-use fields::piece_length;
+use fields::parting::piece_length;
+use lines::Line;
 use lines::read_line;
+use refusals::Ground;
+use refusals::Refusal;
+use refusals::refused_at;
 use table::Kind;
 use table::Release;
 use table::Server;
@@ -14,73 +15,20 @@ use table::multiples::common_span;
 ghost use mathlib.Core.Path.{_≡_};
 ghost use Prim.Native.Nat.{_<_, _≤_};
 ghost use lib.ListN.{length};
-ghost use Rattle.reading.specs.Reading.{numberOf, noTable, refusal, withSpan, withServer, withTask, endedOf, readLines, readingOf};
+ghost use Rattle.refusals.specs.Refusals.{numberOf};
+ghost use Rattle.reading.specs.Reading.{noTable, refusal, withSpan, withServer, withTask, endedOf, readLines, readingOf};
 ghost use Rattle.reading.specs.Pieces.{Room, withLine, goesOn, refusedLine, Feeds};
-ghost use Rattle.reading.specs.Fields.{linesOf};
-
-// What can be wrong with a text.
-pub enum What {
-    TextTooLong,
-    NotEnded,
-    Misplaced,
-    Missing,
-    TooMany,
-    FieldCount,
-    Empty,
-    Dash,
-    NoDigit,
-    LeadingZero,
-    TooManyDigits,
-    UnknownKind,
-    OutOfRange,
-    MultipleOver,
-}
-
-// What is wrong, in which line from 1 on and at which place of it, the first word being 1; 0 where there is none.
-pub struct Fault {
-    pub what: What,
-    pub line: u32,
-    pub place: u32,
-}
+ghost use Rattle.fields.specs.Fields.{linesOf};
 
 pub enum Answer {
     Accepted,
-    Refused(Fault),
+    Refused(Refusal),
 }
 
 // An accepted text comes with its table; a refused one with an empty table.
 pub struct Reading {
     pub answer: Answer,
     pub table: Table,
-}
-
-// The first word of a line.
-pub enum Word {
-    Span,
-    Server,
-    Once,
-    Every,
-    Unknown,
-}
-
-// A field that is to be a number.
-pub enum Number {
-    Value(u32),
-    Bad(What),
-}
-
-// A field that is to be a server's kind.
-pub enum KindField {
-    Is(Kind),
-    Bad(What),
-}
-
-// What one line says; a span of 0 is the one that all periods give.
-pub enum Line {
-    SpanIs(u32),
-    ServerIs(Server),
-    TaskIs(Task),
-    Wrong(What, u32),
 }
 
 // A table before its first line.
@@ -105,12 +53,14 @@ fn no_table() -> Table
     }
 }
 
-fn refused(what: What, line: u32, place: u32) -> Reading
-    ensures { λ r. ⌜ r ≡ refusal what line place ⌝ }
+// The reading of a text that is refused.
+pub fn refused(ground: Ground, line: u32, place: u32) -> Reading
+    ensures { λ r. ⌜ r ≡ refusal ground line place ⌝ }
 {
+    let refusal = refused_at(ground, line, place);
     let table = no_table();
     Reading {
-        answer: Answer::Refused(Fault { what, line, place }),
+        answer: Answer::Refused(refusal),
         table,
     }
 }
@@ -153,10 +103,10 @@ fn ended(table: Table, line: u32) -> Reading
     ensures { λ r. ⌜ r ≡ endedOf table line ⌝ }
 {
     if table.servers_n < 1 {
-        return refused(What::Missing, line, 0);
+        return refused(Ground::Missing, line, 0);
     }
     if table.tasks_n < 1 {
-        return refused(What::Missing, line, 0);
+        return refused(Ground::Missing, line, 0);
     }
     if table.span != 0 {
         return Reading {
@@ -165,7 +115,7 @@ fn ended(table: Table, line: u32) -> Reading
         };
     }
     let Span::Ticks(span) = common_span(table) else {
-        return refused(What::MultipleOver, 0, 0);
+        return refused(Ground::MultipleOver, 0, 0);
     };
     let whole = with_span(table, span);
     Reading {
@@ -205,9 +155,9 @@ fn refused_line(line: Line, n: u32) -> Reading
 {
     match line {
         Line::Wrong(what, place) => refused(what, n, place),
-        Line::SpanIs(_) => refused(What::Misplaced, n, 0),
-        Line::ServerIs(_) => refused(What::Misplaced, n, 0),
-        Line::TaskIs(_) => refused(What::Misplaced, n, 0),
+        Line::SpanIs(_) => refused(Ground::Misplaced, n, 0),
+        Line::ServerIs(_) => refused(Ground::Misplaced, n, 0),
+        Line::TaskIs(_) => refused(Ground::Misplaced, n, 0),
     }
 }
 
@@ -233,41 +183,19 @@ fn read_lines(text: &[u8]) -> Reading
     ended(table, n)
 }
 
-// 01's number for what is wrong.
-pub fn number_of(what: What) -> u32
-    ensures { λ r. ⌜ r ≡ numberOf what ⌝ }
-{
-    match what {
-        What::TextTooLong => 1,
-        What::NotEnded => 2,
-        What::Misplaced => 3,
-        What::Missing => 3,
-        What::TooMany => 7,
-        What::FieldCount => 4,
-        What::Empty => 5,
-        What::Dash => 5,
-        What::NoDigit => 5,
-        What::LeadingZero => 5,
-        What::TooManyDigits => 5,
-        What::UnknownKind => 5,
-        What::OutOfRange => 6,
-        What::MultipleOver => 8,
-    }
-}
-
 // Reads a table's text: the table, or what is wrong with the text.
 pub fn read(text: &[u8]) -> Reading
     ensures { λ r. ⌜ r ≡ readingOf (now (text .entry)) ⌝ }
 {
     if 4096 < text.len() {
-        return refused(What::TextTooLong, 0, 0);
+        return refused(Ground::TextTooLong, 0, 0);
     }
     if text.len() == 0 {
-        return refused(What::NotEnded, 0, 0);
+        return refused(Ground::NotEnded, 0, 0);
     }
     let last = text.len() - 1;
     if text[last] != 10 {
-        return refused(What::NotEnded, 0, 0);
+        return refused(Ground::NotEnded, 0, 0);
     }
     read_lines(text)
 }

@@ -2,19 +2,13 @@
 use mathlib.Core.Path.{refl}
 use Rattle.windows.specs.Windows.{inside, cover, endOf, window, join, runs, upto, waiting, done, fitIn, fit, firstGiven}
 use Rattle.windows.specs.Servers.{before, held}
-use Rattle.machine.specs.Machine.{firstOf}
+use Rattle.table.specs.Places.{firstOf}
 use Rattle.schedule.specs.Curves.{below, releasesFrom, withReleases, demandOf, summedBelow, heldIn, freeOf, leftBelow, runningOf}
-use Rattle.answers.specs.Answers.{judged, outcomeOf, entries}
-use Rattle.reporting.specs.Report.{digits, serverLines, taskLines}
+use Rattle.answers.specs.Answers.{judged, verdictOf, entries}
+use Rattle.putting.specs.Decimal.{digits}
+use Rattle.printing.specs.Report.{listed}
 use Rattle.reporting.specs.Examples.{Checked}
 
 pub checked : Checked
-unfolding inside cover endOf window join runs upto waiting done fitIn fit firstGiven before held firstOf below releasesFrom withReleases demandOf summedBelow heldIn freeOf leftBelow runningOf judged outcomeOf entries digits serverLines taskLines
-checked = record {
-  table-a = refl;
-  table-b = refl;
-  table-c = refl;
-  refused = refl;
-  numbers = (refl, refl, refl);
-  margins = (refl, refl, refl);
-}
+unfolding inside cover endOf window join runs upto waiting done fitIn fit firstGiven before held firstOf below releasesFrom withReleases demandOf summedBelow heldIn freeOf leftBelow runningOf judged verdictOf entries digits listed
+checked = record { table-a = refl; table-b = refl; table-c = refl }

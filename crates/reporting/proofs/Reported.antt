@@ -1,23 +1,24 @@
 -- The report call: refused where the report does not fit, and nothing else; else written to the front. Assumes nothing.
-use Prim.Native.Nat.{ℕ, _+_, _≤_, _<_}
-use mathlib.Core.Path.{_≡_, refl, sym, ap, _∙_}
+use Prim.Native.Nat.{ℕ, _≤_, _<_}
+use mathlib.Core.Path.{_≡_, sym, ap, _∙_}
 use mathlib.Core.List.{List, _++_}
 use mathlib.Core.Bool.{Bool, true, false}
 use native.Mathlib.Omega.{arith}
 use lib.ListN.{length, drop, length-append}
 use lib.Dec.{leb}
 use borrow.Author.Tests.{le-leb, lt-leb}
-use Rattle.windows.specs.Windows.{pick}
-use Rattle.curves.specs.Refusals.{Outcome, answer, refused, lent, writtenOf}
-use Rattle.curves.specs.declared.Ground.the-variants.{NoRoom}
+use Rattle.basics.specs.Choice.{pick}
+use Rattle.refusals.specs.Outcomes.{Outcome, answer, refused, lent}
+use Rattle.refusals.specs.Refusals.{refusedFor}
+use Rattle.refusals.specs.declared.Ground.the-variants.{NoRoom}
 use Rattle.curves.specs.declared.Written.{Written}
 use Rattle.curves.specs.declared.Written.the-variants.{Count, Refused}
 use Rattle.curves.proofs.Outcomes.{written-once}
-use Rattle.reporting.specs.Puts.{Put}
-use Rattle.reporting.specs.Reporting.{reportFor, reportOutcome, Reports}
+use Rattle.putting.specs.Puts.{Put}
+use Rattle.reporting.specs.Reporting.{reportFor, Reports}
 
 module _ (text out : List ℕ) where
-  pub reports-refused : length out < length (reportFor text) → Reports text out (Refused NoRoom) out
+  pub reports-refused : length out < length (reportFor text) → Reports text out (Refused (refusedFor NoRoom)) out
   reports-refused h = let no-room : leb (length (reportFor text)) (length out) ≡ false = lt-leb (length (reportFor text)) (length out) h in
       record { answer-is = rw no-room; buffer = rw no-room }
 
@@ -34,10 +35,10 @@ module _ (text out : List ℕ) where
     where
       count : Outcome ℕ → ℕ
       count (answer k) = k
-      count (refused number line) = 0
+      count (refused refusal) = 0
 
       told : Bool → Outcome ℕ
-      told b = pick b (answer (length (reportFor text))) (refused 11 0)
+      told b = pick b (answer (length (reportFor text))) (refused (refusedFor NoRoom))
 
       go : (b : Bool) → answer n ≡ told b → after ≡ lent (told b) (reportFor text) out → n ≤ length after
       go true q f =

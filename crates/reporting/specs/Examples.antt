@@ -2,10 +2,9 @@
 use Prim.Native.Nat.{ℕ}
 use mathlib.Core.Path.{_≡_}
 use mathlib.Core.List.{List, [], _∷_}
-use lib.IntN.{pos, negsuc}
 use Rattle.machine.specs.Examples.{tableA, tableB, tableC}
-use Rattle.scheduling.specs.Analysing.{analysed, notAnalysed}
-use Rattle.reporting.specs.Report.{decimal, signed, reportOf}
+use Rattle.scheduling.specs.Analysing.{analysed}
+use Rattle.printing.specs.Report.{reportOf}
 
 -- span 40
 -- server 1 4 -
@@ -52,10 +51,3 @@ pub record Checked : Type 0 where
   pub table-a : reportOf (analysed tableA) ≡ printedA
   pub table-b : reportOf (analysed tableB) ≡ printedB
   pub table-c : reportOf (analysed tableC) ≡ printedC
-  -- refused 5 3
-  pub refused : reportOf (notAnalysed 5 3) ≡ 114 ∷ 101 ∷ 102 ∷ 117 ∷ 115 ∷ 101 ∷ 100 ∷ 9 ∷ 53 ∷ 9 ∷ 51 ∷ 10 ∷ []
-  -- 0, 10 and 16000
-  pub numbers : (decimal 0 ≡ 48 ∷ []) × (decimal 10 ≡ 49 ∷ 48 ∷ []) × (decimal 16000 ≡ 49 ∷ 54 ∷ 48 ∷ 48 ∷ 48 ∷ [])
-  -- 0, 15999 and -15999, each behind a tab
-  pub margins : (signed (pos 0) ≡ 9 ∷ 48 ∷ []) × (signed (pos 15999) ≡ 9 ∷ 49 ∷ 53 ∷ 57 ∷ 57 ∷ 57 ∷ [])
-      × (signed (negsuc 15998) ≡ 9 ∷ 45 ∷ 49 ∷ 53 ∷ 57 ∷ 57 ∷ 57 ∷ [])

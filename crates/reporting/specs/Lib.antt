@@ -1,4 +1,2 @@
-pub mod Puts
-pub mod Report
 pub mod Reporting
 pub mod Examples

@@ -1,17 +1,15 @@
 // The report of a table's text, as text.
-mod lines;
-mod writing;
-
 use answers::Analysis;
-use curves::Ground;
 use curves::Written;
-use lines::put_report;
+use printing::put_report;
+use refusals::Ground;
+use refusals::refused;
 ghost use mathlib.Core.Path.{_≡_};
 ghost use mathlib.Core.Bool.{true};
 ghost use Prim.Native.Nat.{_≤_};
 ghost use lib.ListN.{length};
 ghost use Rattle.scheduling.specs.Analysing.{analysisOf};
-ghost use Rattle.reporting.specs.Report.{reportOf};
+ghost use Rattle.printing.specs.Report.{reportOf};
 ghost use Rattle.reporting.specs.Reporting.{Reports};
 
 // The analysis of a text, on work buffers of its own.
@@ -37,7 +35,7 @@ fn analysed(text: &[u8]) -> Analysis
 
 // How many bytes the report of an analysis has: what a buffer has no room for is counted too.
 fn count(analysis: Analysis) -> usize
-    requires { ⌜ (analysis .«servers_n» ≤ 16) × (length (analysis .servers) ≡ 16) × (analysis .«tasks_n» ≤ 64) × (length (analysis .tasks) ≡ 64) ⌝ }
+    requires { ⌜ (analysis .«servers_n» ≤ 16) × (analysis .«tasks_n» ≤ 64) ⌝ }
     ensures { λ r. ⌜ r ≡ length (reportOf analysis) ⌝ }
 {
     let mut little = [0u8; 1];
@@ -51,7 +49,7 @@ pub fn report(text: &[u8], out: &mut [u8]) -> Written
     let analysis = analysed(text);
     let n = count(analysis);
     if out.len() < n {
-        return Written::Refused(Ground::NoRoom);
+        return Written::Refused(refused(Ground::NoRoom));
     }
     put_report(out, analysis);
     Written::Count(n)

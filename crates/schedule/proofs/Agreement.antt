@@ -7,12 +7,13 @@ use native.Mathlib.Omega.{arith}
 use native.Mathlib.Decide.{decLt, ℕ-discrete}
 use lib.Dec.{ltb, eqb}
 use borrow.Author.Tests.{eq-eqb, ne-eqb, eqb-true}
-use Rattle.windows.specs.Windows.{pick, cover}
+use Rattle.basics.specs.Choice.{pick}
+use Rattle.windows.specs.Windows.{cover}
 use Rattle.table.specs.declared.Table.{Table}
-use Rattle.machine.specs.Machine.{firstOf, ready, holder, runner}
+use Rattle.table.specs.Places.{firstOf, Obeyed}
+use Rattle.machine.specs.Machine.{ready, holder, runner}
 use Rattle.machine.specs.Run.{stateBefore, holderAt, runnerAt}
-use Rattle.machine.specs.Parts.{Obeyed}
-use Rattle.machine.proofs.Places.{is-first, none-of}
+use Rattle.table.proofs.Places.{is-first, none-of}
 use Rattle.machine.proofs.OneTick.{holder-server, runner-task}
 use Rattle.machine.proofs.WholeRun.{mark}
 use Rattle.schedule.specs.Curves.{freeOf, heldOf, runningOf, holderFrom, runnerFrom}

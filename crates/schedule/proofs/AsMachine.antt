@@ -4,10 +4,10 @@ use mathlib.Core.Path.{_≡_, sym, ap, _∙_}
 use native.Mathlib.Omega.{arith}
 use Rattle.windows.specs.Windows.{done}
 use Rattle.table.specs.declared.Table.{Table}
-use Rattle.machine.specs.Machine.{taskAt, gains}
+use Rattle.table.specs.Places.{taskAt, Obeyed}
+use Rattle.table.specs.Releases.{gains}
 use Rattle.machine.specs.Run.{holds, runsIn}
-use Rattle.machine.specs.Parts.{Obeyed}
-use Rattle.machine.proofs.Obeyed.{task-server}
+use Rattle.table.proofs.Obeyed.{task-server}
 use Rattle.schedule.specs.Ticks.{heldTicks, runTicks}
 use Rattle.schedule.proofs.AsTasks.{left-same, run-done}
 use Rattle.schedule.proofs.AsServers.{held-same}

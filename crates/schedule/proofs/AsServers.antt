@@ -8,7 +8,8 @@ use native.Mathlib.Decide.{ℕ-discrete}
 use lib.ListN.{getD}
 use lib.Dec.{ltb}
 use borrow.Author.Tests.{lt-ltb, ltb-false, eq-eqb, ne-eqb}
-use Rattle.windows.specs.Windows.{pick, upto, _⊕_}
+use Rattle.basics.specs.Choice.{pick}
+use Rattle.windows.specs.Windows.{upto, _⊕_}
 use Rattle.windows.specs.Servers.{soFar, limited}
 use Rattle.windows.proofs.Counts.{upto-⊕, upto-none, upto-same}
 use Rattle.windows.proofs.Queue.{Serves, serves-done}
@@ -16,11 +17,12 @@ use Rattle.windows.proofs.Capacity.{held-once}
 use Rattle.table.specs.declared.Kind.{Kind}
 use Rattle.table.specs.declared.Kind.the-variants.{Deferrable, Periodic}
 use Rattle.table.specs.declared.Table.{Table}
-use Rattle.machine.specs.Machine.{serverAt, taskAt, gains, waits, firstTask, isPeriodic, mayHold, qualifies, ready, holder, runner}
+use Rattle.table.specs.Places.{serverAt, taskAt, Obeyed}
+use Rattle.table.specs.Releases.{gains}
+use Rattle.machine.specs.Machine.{waits, firstTask, isPeriodic, mayHold, qualifies, ready, holder, runner}
 use Rattle.machine.specs.Run.{stateBefore, holderAt, runnerAt, holds, runsIn}
-use Rattle.machine.specs.Parts.{Obeyed}
-use Rattle.machine.proofs.Places.{first-not}
-use Rattle.machine.proofs.Obeyed.{server-period}
+use Rattle.table.proofs.Places.{first-not}
+use Rattle.table.proofs.Obeyed.{server-period}
 use Rattle.machine.proofs.OneTick.{runner-task}
 use Rattle.machine.proofs.WholeRun.{deferrable-holder-runs, work-counts, budget, budget-ready, holds-most, budget-counts}
 use Rattle.schedule.specs.Curves.{belongs}

@@ -12,9 +12,10 @@ use Rattle.windows.specs.Windows.{upto, done}
 use Rattle.windows.proofs.Queue.{Serves, serves-done}
 use Rattle.table.specs.declared.Table.{Table}
 use Rattle.machine.specs.declared.State.{State}
-use Rattle.machine.specs.Machine.{taskAt, gains, waits, firstTask, runnerOf, ready, runner}
+use Rattle.table.specs.Places.{taskAt, Obeyed}
+use Rattle.table.specs.Releases.{gains}
+use Rattle.machine.specs.Machine.{waits, firstTask, runnerOf, ready, runner}
 use Rattle.machine.specs.Run.{stateBefore, holderAt, runnerAt, holds, runsIn}
-use Rattle.machine.specs.Parts.{Obeyed}
 use Rattle.machine.proofs.WholeRun.{is-marked, mark-most, runner-of-holder, work-ready, waiting-next, work-counts}
 use Rattle.schedule.specs.Ticks.{heldTicks, leftTicks}
 use Rattle.schedule.proofs.Marks.{mark-own, mark-other, mark-one, unmarked, unmarked-one, mark-first, passed-over}

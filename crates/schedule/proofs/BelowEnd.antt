@@ -14,7 +14,8 @@ use Rattle.table.specs.declared.Kind.the-variants.{Deferrable, Periodic}
 use Rattle.schedule.specs.Curves.{holding}
 use Rattle.schedule.specs.Ticks.{wants}
 use Rattle.schedule.proofs.Demands.{Inside}
-use Rattle.schedule.proofs.Capacities.{done-smooth, held-smooth, held-is-free, held-past, first-free-is-held}
+use Rattle.schedule.proofs.Capacities.{done-smooth, held-smooth, held-past, first-free-is-held}
+use Rattle.windows.proofs.Capacity.{held-is-free}
 
 -- ---- curves below an end
 

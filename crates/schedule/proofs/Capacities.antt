@@ -31,10 +31,6 @@ held-smooth C T x free p unit =
 
 -- ---- a held tick is free, and the past decides
 
-pub held-is-free : (C T : ℕ) (x free : ℕ → ℕ) (t : ℕ) → held C T x free t ≤ free t
-unfolding held
-held-is-free C T x free t = omega arith
-
 module _ (C T : ℕ) (x y f g : ℕ → ℕ) where
   before-past : (t : ℕ) → ((u : ℕ) → u < t → x u ≡ y u) → ((u : ℕ) → u < t → f u ≡ g u) → before C T x f t ≡ before C T y g t
   unfolding before

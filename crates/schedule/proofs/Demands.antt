@@ -5,15 +5,16 @@ use mathlib.Core.List.{List, [], _∷_}
 use mathlib.Core.Bool.{Bool, true, false}
 use native.Mathlib.Omega.{arith}
 use native.Mathlib.Decide.{decLe}
-use Rattle.windows.specs.Windows.{pick, inside, cover, addUp, always, _⊕_}
+use Rattle.basics.specs.Choice.{pick}
+use Rattle.windows.specs.Windows.{inside, cover, addUp, always, _⊕_}
 use Rattle.windows.proofs.Ticks.{inside-yes, inside-early, inside-late, Apart, apart-lower, window-apart, window-cover}
 use Rattle.windows.proofs.Queue.{none, smooth, smooth-absorbed, smooth-units, done-past}
 use Rattle.windows.proofs.Adding.{add-ticks, add-apart}
 use Rattle.table.specs.declared.Task.{Task}
 use Rattle.table.specs.declared.Table.{Table}
-use Rattle.machine.specs.Machine.{taskAt, gains}
-use Rattle.machine.specs.Parts.{Obeyed}
-use Rattle.machine.proofs.Obeyed.{task-some}
+use Rattle.table.specs.Places.{taskAt, Obeyed}
+use Rattle.table.specs.Releases.{gains}
+use Rattle.table.proofs.Obeyed.{task-some}
 use Rattle.schedule.specs.Curves.{belongs, below, releasesFrom, withReleases, demandOf, summedBelow}
 use Rattle.schedule.specs.Ticks.{worksBelow}
 use Rattle.schedule.proofs.Impulses.{impulse, impulse-smooth, impulses, impulses-gain}

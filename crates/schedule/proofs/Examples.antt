@@ -2,7 +2,7 @@
 use mathlib.Core.Path.{refl}
 use Rattle.windows.specs.Windows.{inside, cover, endOf, window, join, runs, upto, waiting, done, fitIn, fit}
 use Rattle.windows.specs.Servers.{before, held}
-use Rattle.machine.specs.Machine.{firstOf}
+use Rattle.table.specs.Places.{firstOf}
 use Rattle.schedule.specs.Curves.{below, releasesFrom, withReleases, demandOf, summedBelow, heldIn, freeOf, leftBelow, runningOf}
 use Rattle.schedule.specs.Examples.{ticksFrom, Checked}
 

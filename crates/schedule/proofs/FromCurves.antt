@@ -5,17 +5,18 @@ use mathlib.Core.List.{List, []}
 use mathlib.Core.Bool.{Bool, true, false}
 use native.Mathlib.Omega.{arith}
 use native.Mathlib.Decide.{decLt}
-use Rattle.windows.specs.Windows.{pick, cover, done, fit}
+use Rattle.basics.specs.Choice.{pick}
+use Rattle.windows.specs.Windows.{cover, done, fit}
 use Rattle.windows.proofs.Ticks.{Apart, inside-yes, inside-late, cover-one, window-cover, window-apart}
 use Rattle.windows.proofs.Queue.{smooth}
 use Rattle.table.specs.declared.Table.{Table}
-use Rattle.machine.specs.Machine.{serverAt, taskAt, gains}
-use Rattle.machine.specs.Parts.{Obeyed}
-use Rattle.machine.proofs.Obeyed.{server-period, task-server, task-some}
+use Rattle.table.specs.Places.{serverAt, taskAt, Obeyed}
+use Rattle.table.specs.Releases.{gains}
+use Rattle.table.proofs.Obeyed.{server-period, task-server, task-some}
 use Rattle.schedule.specs.Curves.{belongs, demandOf, summed, holding, heldIn, freeOf, heldOf, leftBelow, runningOf}
 use Rattle.schedule.specs.Ticks.{worksBelow, wants, takes, freeTicks, heldTicks, leftTicks, runTicks}
 use Rattle.schedule.proofs.Demands.{Inside, demand-inside, demand-cover, summed-cover}
-use Rattle.schedule.proofs.Capacities.{held-is-free}
+use Rattle.windows.proofs.Capacity.{held-is-free}
 use Rattle.schedule.proofs.BelowEnd.{windows-inside, windows-below, fit-splits, served-inside, rest-inside, served-cover, rest-cover, holding-free, holding-is}
 
 -- ---- the ticks of the queues are one unit at most

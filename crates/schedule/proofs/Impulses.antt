@@ -7,11 +7,12 @@ use native.Mathlib.Omega.{arith}
 use native.Mathlib.Decide.{decLe, decLt, ℕ-discrete}
 use lib.Dec.{eqb}
 use borrow.Author.Tests.{eq-eqb, ne-eqb}
-use Rattle.windows.specs.Windows.{pick, inside, waiting, done, always, _⊕_}
+use Rattle.basics.specs.Choice.{pick}
+use Rattle.windows.specs.Windows.{inside, waiting, done, always, _⊕_}
 use Rattle.windows.proofs.Ticks.{inside-yes, inside-early, inside-late}
 use Rattle.windows.proofs.Queue.{none, smooth}
 use Rattle.table.specs.declared.Release.{Release}
-use Rattle.machine.specs.Machine.{releasedAt}
+use Rattle.table.specs.Releases.{releasedAt}
 use Rattle.schedule.specs.Curves.{releasesFrom}
 
 -- ---- work that comes at one tick

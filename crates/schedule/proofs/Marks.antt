@@ -5,8 +5,8 @@ use mathlib.Core.Bool.{Bool, false}
 use native.Mathlib.Omega.{arith}
 use native.Mathlib.Decide.{decLt, ℕ-discrete}
 use borrow.Author.Tests.{eq-eqb, ne-eqb}
-use Rattle.machine.specs.Machine.{firstOf}
-use Rattle.machine.proofs.Places.{first-is, first-not}
+use Rattle.table.specs.Places.{firstOf}
+use Rattle.table.proofs.Places.{first-is, first-not}
 use Rattle.machine.proofs.WholeRun.{mark, mark-most}
 
 -- the mark is 1 at the number's own place

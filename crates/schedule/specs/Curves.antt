@@ -3,14 +3,16 @@ use Prim.Native.Nat.{ℕ, zero, suc, _+_, _-_, min}
 use mathlib.Core.List.{List, [], _∷_}
 use mathlib.Core.Bool.{Bool}
 use lib.Dec.{ltb, eqb}
-use Rattle.windows.specs.Windows.{pick, window, cover, addUp, windowsOf, fit}
+use Rattle.basics.specs.Choice.{pick}
+use Rattle.windows.specs.Windows.{window, cover, addUp, windowsOf, fit}
 use Rattle.windows.specs.Servers.{soFar, held}
 use Rattle.table.specs.declared.Kind.{Kind}
 use Rattle.table.specs.declared.Kind.the-variants.{Deferrable, Periodic}
 use Rattle.table.specs.declared.Release.{Release}
 use Rattle.table.specs.declared.Task.{Task}
 use Rattle.table.specs.declared.Table.{Table}
-use Rattle.machine.specs.Machine.{serverAt, taskAt, releasedAt, firstOf}
+use Rattle.table.specs.Places.{serverAt, taskAt, firstOf}
+use Rattle.table.specs.Releases.{releasedAt}
 
 -- whether the task at place j is one of the server at place i
 abbrev pub belongs : Table → ℕ → ℕ → Bool

@@ -1,12 +1,14 @@
 -- The curves of a table tick by tick, without an end: the queues that stand between the curves and the machine. Nothing has to be believed
 -- of them.
 use Prim.Native.Nat.{ℕ, zero, suc, _+_, _-_}
-use Rattle.windows.specs.Windows.{pick, done, always, _⊕_}
+use Rattle.basics.specs.Choice.{pick}
+use Rattle.windows.specs.Windows.{done, always, _⊕_}
 use Rattle.windows.specs.Servers.{held}
 use Rattle.table.specs.declared.Kind.{Kind}
 use Rattle.table.specs.declared.Kind.the-variants.{Deferrable, Periodic}
 use Rattle.table.specs.declared.Table.{Table}
-use Rattle.machine.specs.Machine.{serverAt, taskAt, gains}
+use Rattle.table.specs.Places.{serverAt, taskAt}
+use Rattle.table.specs.Releases.{gains}
 use Rattle.schedule.specs.Curves.{belongs}
 
 abbrev pub nothing : ℕ → ℕ

@@ -6,9 +6,10 @@ use mathlib.Core.Bool.{true}
 use native.Mathlib.Omega.{arith}
 use lib.ListN.{length, getD, length-replicate}
 use Rattle.table.specs.declared.Table.{Table}
-use Rattle.machine.specs.Parts.{Obeyed}
-use Rattle.machine.proofs.Obeyed.{servers-most, tasks-most}
-use Rattle.reading.specs.Reading.{numberOf, readingOf}
+use Rattle.table.specs.Places.{Obeyed}
+use Rattle.table.proofs.Obeyed.{servers-most, tasks-most}
+use Rattle.refusals.specs.declared.Refusal.{Refusal}
+use Rattle.reading.specs.Reading.{readingOf}
 use Rattle.reading.specs.declared.Answer.{Answer}
 use Rattle.reading.specs.declared.Answer.the-variants.{Accepted, Refused}
 use Rattle.answers.specs.Answers.{serverAnswer, taskAnswer, noServerAnswer, noTaskAnswer}
@@ -18,7 +19,7 @@ use Rattle.answers.specs.declared.ServerAnswer.{ServerAnswer}
 use Rattle.answers.specs.declared.TaskAnswer.{TaskAnswer}
 use Rattle.answers.proofs.Entries.{entries-length, entry-is}
 use Rattle.answers.proofs.Saying.{server-says, task-says}
-use Rattle.scheduling.specs.Buffers.{answerBy}
+use Rattle.opening.specs.Opening.{answerBy}
 use Rattle.scheduling.specs.Analysing.{notAnalysed, analysed, analysisOf, Says}
 use Rattle.scheduling.proofs.Calls.{accepted-obeyed}
 
@@ -30,8 +31,8 @@ pub record Sized (a : Analysis) : Type 0 where
   pub tasks-most : a .«tasks_n» ≤ 64
   pub tasks-length : length (a .tasks) ≡ 64
 
-refused-sized : (number line : ℕ) → Sized (notAnalysed number line)
-refused-sized number line = record {
+refused-sized : (refusal : Refusal) → Sized (notAnalysed refusal)
+refused-sized refusal = record {
   servers-most = omega arith;
   servers-length = length-replicate 16 noServerAnswer;
   tasks-most = omega arith;
@@ -51,7 +52,7 @@ analysis-sized text = go (readingOf text .answer) refl
   where
     go : (x : Answer) → readingOf text .answer ≡ x → Sized (answerBy notAnalysed analysed x (readingOf text .table))
     go Accepted e = answered-sized (readingOf text .table) (accepted-obeyed text e)
-    go (Refused fault) e = refused-sized (numberOf (fault .what)) (fault .line)
+    go (Refused refusal) e = refused-sized refusal
 
 -- ---- what it says of the machine
 

@@ -1,4 +1,4 @@
--- A call on a text and six work buffers, whatever it answers: which refusal it gives, and the buffers afterwards. Assumes nothing.
+-- The table of an accepted text, and the six work buffers of a call. Assumes nothing.
 use Prim.Native.Nat.{ℕ, _≤_, _<_}
 use mathlib.Core.Path.{_≡_, refl, sym, ap, subst, _∙_}
 use mathlib.Core.List.{List}
@@ -7,19 +7,18 @@ use native.Mathlib.Omega.{arith}
 use lib.ListN.{length, replicate}
 use lib.Dec.{leb, eqb}
 use borrow.Author.Tests.{leb-true, ne-eqb}
-use Rattle.windows.specs.Windows.{pick}
-use Rattle.windows.proofs.Ticks.{and-left, and-right}
+use Rattle.basics.specs.Choice.{pick}
+use Rattle.basics.proofs.Tests.{and-left, and-right}
 use Rattle.table.specs.declared.Table.{Table}
-use Rattle.machine.specs.Parts.{Obeyed}
-use Rattle.machine.proofs.Obeyed.{obeyed-of}
-use Rattle.reading.specs.Reading.{numberOf, readingOf}
-use Rattle.reading.specs.declared.What.{What}
-use Rattle.reading.specs.declared.What.the-variants as what
+use Rattle.table.specs.Places.{Obeyed}
+use Rattle.table.proofs.Obeyed.{obeyed-of}
+use Rattle.reading.specs.Reading.{readingOf}
 use Rattle.reading.specs.declared.Answer.{Answer}
 use Rattle.reading.specs.declared.Answer.the-variants.{Accepted, Refused}
 use Rattle.reading.proofs.Accepted.{read-obeys, read-sized}
 use Rattle.reading.proofs.Accepted as reading
-use Rattle.scheduling.specs.Buffers.{enough, answerBy, answerOf, afterwards, Buffers}
+use Rattle.opening.specs.Opening.{enough}
+use Rattle.scheduling.specs.Buffers.{afterwards, Buffers}
 
 -- ---- the table of an accepted text
 
@@ -28,34 +27,7 @@ accepted-obeyed text e =
     let z = read-sized text in
     obeyed-of (readingOf text .table) (subst (λ (a : Answer). reading.Obeyed a (readingOf text .table)) e (read-obeys text)) (z .of-servers) (z .of-tasks)
 
--- ---- the answer
-
--- 01's numbers begin with 1
-pub number-some : (w : What) → 0 < numberOf w
-number-some what.TextTooLong = omega arith
-number-some what.NotEnded = omega arith
-number-some what.Misplaced = omega arith
-number-some what.Missing = omega arith
-number-some what.TooMany = omega arith
-number-some what.FieldCount = omega arith
-number-some what.Empty = omega arith
-number-some what.Dash = omega arith
-number-some what.NoDigit = omega arith
-number-some what.LeadingZero = omega arith
-number-some what.TooManyDigits = omega arith
-number-some what.UnknownKind = omega arith
-number-some what.OutOfRange = omega arith
-number-some what.MultipleOver = omega arith
-
-module _ {A : Type 0} (refusal : ℕ → ℕ → A) (of : Table → A) (text : List ℕ) where
-  -- 9 first
-  pub too-small : (room : Bool) → room ≡ false → refusal 9 0 ≡ answerOf refusal of text room
-  too-small room h = rw h
-
-  -- then what reading answers
-  pub told-by : (room : Bool) → room ≡ true → (x : Answer) → readingOf text .answer ≡ x
-      → answerBy refusal of x (readingOf text .table) ≡ answerOf refusal of text room
-  told-by room h x p = rw (h, p)
+-- ---- the buffers
 
 -- where there is room, each of three buffers has it
 pub enough-all : (a b c : ℕ) → enough a b c ≡ true → (16000 ≤ a) × (16000 ≤ b) × (16000 ≤ c)
@@ -70,8 +42,6 @@ all-enough a b c d e f h =
     let p = enough-all a b c (and-left (enough a b c) _ h) in
     let q = enough-all d e f (and-right (enough a b c) _ h) in
     (p .0, p .1, p .2, q .0, q .1, q .2)
-
--- ---- buffers
 
 -- a refusal changes none
 kept : (number : ℕ) (buffer : List ℕ) → 0 < number → buffer ≡ afterwards number buffer

@@ -1,170 +1,80 @@
--- A demand written along the releases: the windows behind are closed, and the last is open. Assumes nothing.
-use Prim.Native.Nat.{ℕ, _+_, _*_, _≤_, _<_, min}
-use mathlib.Core.Path.{_≡_, refl, sym, ap, _∙_, fun-ext}
-use mathlib.Core.List.{List, []}
-use mathlib.Core.Bool.{true}
+-- What the opening of a call tells: where its number is 0 the text is accepted and the tick lies in the span, and elsewhere the call is refused
+-- so. Assumes nothing.
+use Prim.Native.Nat.{ℕ, _≤_, _<_}
+use mathlib.Core.Path.{_≡_, refl, sym, ap, _∙_}
+use mathlib.Core.List.{List}
+use mathlib.Core.Bool.{Bool, true, false}
 use native.Mathlib.Omega.{arith}
-use native.Mathlib.Decide.{decLe, decLt}
-use lib.ListN.{length, take}
-use Rattle.windows.specs.Windows.{pick, inside, cover, plainFrom, _⊕_}
-use Rattle.windows.proofs.Ticks.{inside-yes, inside-early, inside-late, inside-one, inside-none, Apart, cover-one, plain-apart, apart-same}
-use Rattle.windows.proofs.Queue.{none, smooth, smooth-absorbed, smooth-units, done-quiet}
-use Rattle.windows.proofs.Adding.{open-longer}
-use Rattle.table.specs.declared.Release.{Release}
-use Rattle.table.specs.declared.Task.{Task}
-use Rattle.machine.specs.Machine.{releasedAt, gains}
-use Rattle.schedule.specs.Curves.{demandOf}
-use Rattle.schedule.proofs.Impulses.{impulse, impulse-smooth}
-use Rattle.schedule.proofs.Demands.{inside-cut, smooth-both, smooth-past, demand-inside, demand-cover}
-use Rattle.scheduling.specs.Parts.{Curve, Drawn, Wrote, with-window}
-use Rattle.scheduling.specs.Walks.{TaskObeyed, firstRelease, nextRelease}
-use Rattle.scheduling.proofs.Releases.{Follows, next-follows, first-released, none-before, gainsBefore, gains-early, gains-first, gains-next}
+use lib.Dec.{leb}
+use borrow.Author.Tests.{leb-true, leb-false}
+use Rattle.refusals.specs.Refusals.{noRefusal}
+use Rattle.refusals.specs.declared.Refusal.{Refusal}
+use Rattle.table.specs.declared.Table.{Table}
+use Rattle.table.proofs.Obeyed.{servers-most, tasks-most, span-some}
+use Rattle.reading.specs.Reading.{noTable, readingOf}
+use Rattle.reading.specs.declared.Answer.{Answer}
+use Rattle.reading.specs.declared.Answer.the-variants.{Accepted, Refused}
+use Rattle.reading.proofs.TurnedAway.{turned-away}
+use Rattle.table.specs.Places.{Obeyed}
+use Rattle.opening.specs.declared.Opened.{Opened}
+use Rattle.opening.specs.Opening.{openedOf}
+use Rattle.scheduling.specs.Asking.{noWho, whoOf}
+use Rattle.scheduling.specs.Analysing.{notAnalysed, analysisOf}
+use Rattle.scheduling.proofs.Calls.{accepted-obeyed}
 
--- ---- ticks
+module _ (text : List ℕ) (tick : ℕ) where
+  -- the call is not refused
+  pub record Ready (room : Bool) : Type 0 where
+    pub roomy : room ≡ true
+    pub accepted : readingOf text .answer ≡ Accepted
+    pub within : tick < readingOf text .table .span
+    pub unrefused : openedOf text tick room .refusal ≡ noRefusal
+    pub table : openedOf text tick room .table ≡ readingOf text .table
 
--- closed windows before an open one: nothing waits
-open-alone : (f : ℕ → ℕ) (s e : ℕ) → ((t : ℕ) → f t ≤ 1) → ((t : ℕ) → s ≤ t → f t ≡ 0) → smooth (f ⊕ inside s e) ≡ f ⊕ inside s e
-open-alone f s e one over = smooth-units (f ⊕ inside s e) (λ t. go t (decLt t s))
-  where
-    go : (t : ℕ) → Dec (t < s) → f t + inside s e t ≤ 1
-    go t (yes h) = omega (arith, one t, inside-early s e t h)
-    go t (no h) = omega (arith, over t (omega arith), inside-one s e t)
+  -- the ways that it can go
+  pub data Way (room : Bool) : Type 0 where
+    ready : Ready room → Way room
+    refused : 0 < openedOf text tick room .refusal .number → whoOf text tick room ≡ noWho (openedOf text tick room .refusal)
+        → (openedOf text tick room .table .«servers_n» ≤ 16) × (openedOf text tick room .table .«tasks_n» ≤ 64)
+        → (tick ≡ 0 → (analysisOf text room ≡ notAnalysed (openedOf text tick room .refusal)) × (openedOf text tick room .table ≡ noTable)) → Way room
 
--- n units that come while the window is open make it longer by n
-open-more : (f : ℕ → ℕ) (s e r n : ℕ) → ((t : ℕ) → f t ≤ 1) → ((t : ℕ) → s ≤ t → f t ≡ 0) → s ≤ r → r ≤ e
-    → smooth ((f ⊕ inside s e) ⊕ inside r (r + n)) ≡ f ⊕ inside s (e + n)
-open-more f s e r n one over h k =
-    ap smooth (fun-ext (λ t. omega arith))
-    ∙ sym (smooth-absorbed (inside s e ⊕ inside r (r + n)) f)
-    ∙ ap (λ (g : ℕ → ℕ). smooth (g ⊕ f)) (open-longer s e r n h k)
-    ∙ ap smooth (fun-ext (λ t. omega arith))
-    ∙ open-alone f s (e + n) one over
+  accepted-way : readingOf text .answer ≡ Accepted → (b : Bool) → leb (readingOf text .table .span) tick ≡ b → Way true
+  accepted-way e false h =
+      ready
+      (record { roomy = refl; accepted = e; within = leb-false (readingOf text .table .span) tick h; unrefused = rw (e, h); table = refl })
+  accepted-way e true h =
+      let ok = accepted-obeyed text e in
+      refused (rw (e, h) (omega arith)) (rw (e, h)) (servers-most _ ok, tasks-most _ ok)
+      (λ z. absurd (omega (arith, span-some _ ok, leb-true (readingOf text .table .span) tick h)))
 
--- work that comes at tick r, behind work that is done in closed windows and an open one
-open-impulse : (x f : ℕ → ℕ) (s e r n : ℕ) → smooth x ≡ f ⊕ inside s e → ((t : ℕ) → f t ≤ 1) → ((t : ℕ) → s ≤ t → f t ≡ 0) → s ≤ r → r ≤ e
-    → smooth (x ⊕ impulse r n) ≡ f ⊕ inside s (e + n)
-open-impulse x f s e r n is one over h k =
-    sym (smooth-both x (impulse r n))
-    ∙ ap (λ (g : ℕ → ℕ). smooth (g ⊕ smooth (impulse r n))) is
-    ∙ ap (λ (g : ℕ → ℕ). smooth ((f ⊕ inside s e) ⊕ g)) (sym (impulse-smooth r n))
-    ∙ open-more f s e r n one over h k
+  read-way : (x : Answer) → readingOf text .answer ≡ x → Way true
+  read-way Accepted e = accepted-way e (leb (readingOf text .table .span) tick) refl
+  read-way (Refused r) e =
+      let t = turned-away text r e in
+      refused (rw e (t .number)) (rw e) (rw (t .empty) (omega arith, omega arith)) (λ z. (rw e, t .empty))
 
--- ---- the walk: before tick r came the work that the first n numbers of out and the open window (s, e) cover
+  pub way : (room : Bool) → Way room
+  way true = read-way (readingOf text .answer) refl
+  way false = refused (omega arith) refl (omega arith, omega arith) (λ z. (refl, refl))
 
-pub record Walk (release : Release) (w span : ℕ) (first out : List ℕ) (s e n r : ℕ) : Type 0 where
-  pub same : length out ≡ length first
-  pub curve : Curve out n s
-  pub started : s < span
-  pub within : s ≤ r
-  pub bounded : e ≤ 16000 * r
-  pub covers : smooth (gainsBefore release w r) ≡ cover (take n out) ⊕ inside s e
-
-module _ {release : Release} {w span : ℕ} {first out : List ℕ} {s e n r : ℕ} (k : Walk release w span first out s e n r) where
-  -- the closed windows cover a tick once at most
-  closed-one : (t : ℕ) → cover (take n out) t ≤ 1
-  closed-one t = cover-one (take n out) 0 t (plain-apart 0 (take n out) (k .curve .curve .plain))
-
-  -- the open window is closed, and an empty one opened at the next release
-  pub walk-close : {new : List ℕ} {m : ℕ} → e < r → r < span → Drawn out new m (with-window (take n out) s e) → Walk release w span first new r r m r
-  walk-close {new} {m} h l d = record {
-    same = d .same ∙ k .same;
-    curve = record {
-      room = omega (arith, d .same, k .curve .room);
-      count = d .count;
-      curve = record {
-        plain = d .plain;
-        over = λ t q. omega (arith, d .covers t, k .curve .curve .over t (omega (arith, k .within)), inside-late s e t (omega arith));
-      };
-    };
-    started = l;
-    within = omega arith;
-    bounded = omega arith;
-    covers = k .covers ∙ fun-ext (λ t. omega (arith, d .covers t, inside-none r r t (omega arith)));
-  }
-
-  -- one release more, while the window is open
-  pub walk-next : {next : ℕ} → w ≤ 16000 → r ≤ e → releasedAt release r ≡ true → Follows release r next → Walk release w span first out s (e + w) n next
-  walk-next {next} most h q f = record {
-    same = k .same;
-    curve = k .curve;
-    started = k .started;
-    within = omega (arith, k .within, f .later);
-    bounded = omega (arith, k .bounded, f .later);
-    covers =
-        ap smooth (gains-next release w r next q f)
-        ∙ open-impulse (gainsBefore release w r) (cover (take n out)) s e r w (k .covers) closed-one (k .curve .curve .over) (k .within) h;
-  }
-
--- ---- the first release
-
-module _ (task : Task) (span : ℕ) (out : List ℕ) (ok : TaskObeyed task) (small : span ≤ 16000) (room : 16000 ≤ length out) where
-  -- nothing written, and the open window empty at the first release
-  walk-empty : firstRelease (task .release) < span
-      → Walk (task .release) (task .work) span out out (firstRelease (task .release)) (firstRelease (task .release)) 0 (firstRelease (task .release))
-  unfolding cover plainFrom
-  walk-empty h =
-      let s = firstRelease (task .release) in
-      record {
-        same = refl;
-        curve = record { room = room; count = omega arith; curve = record { plain = refl; over = λ t q. refl } };
-        started = h;
-        within = omega arith;
-        bounded = omega arith;
-        covers =
-            ap smooth (gains-first (task .release) (task .work))
-            ∙ smooth-units none (λ t. omega arith)
-            ∙ fun-ext (λ t. omega (arith, inside-none s s t (omega arith)));
-      }
-
-  -- the window of the first release is open
-  pub walk-first : firstRelease (task .release) < span
-      → Walk (task .release) (task .work) span out out (firstRelease (task .release)) (firstRelease (task .release) + task .work) 0 (nextRelease (task .release) (firstRelease (task .release)))
-  walk-first h =
-      walk-next (walk-empty h) (ok .most) (omega arith) (first-released (task .release))
-      (next-follows (task .release) (firstRelease (task .release)) (ok .release) (omega arith) (first-released (task .release)))
-
-  -- a curve below the span that covers the work of the task is its demand
-  demand-is : (l : List ℕ) → Apart 0 l → ((t : ℕ) → t < span → cover l t ≡ smooth (gains task) t) → ((t : ℕ) → span ≤ t → cover l t ≡ 0)
-      → l ≡ demandOf span task
-  demand-is l p f g = apart-same l (demandOf span task) 0 p (demand-inside span task (ok .some) .apart) (λ t. go t (decLt t span))
+  -- a table has no more entries than there are places
+  pub opened-few : (room : Bool) → (openedOf text tick room .table .«servers_n» ≤ 16) × (openedOf text tick room .table .«tasks_n» ≤ 64)
+  opened-few room = go (way room)
     where
-      go : (t : ℕ) → Dec (t < span) → cover l t ≡ cover (demandOf span task) t
-      go t (yes h) = f t h ∙ sym (demand-cover span task (ok .some) t h)
-      go t (no h) = g t (omega arith) ∙ sym (demand-inside span task (ok .some) .over t (omega arith))
+      go : Way room → (openedOf text tick room .table .«servers_n» ≤ 16) × (openedOf text tick room .table .«tasks_n» ≤ 64)
+      go (ready r) = let ok = accepted-obeyed text (r .accepted) in rw (r .table) (servers-most _ ok, tasks-most _ ok)
+      go (refused n e few a) = few
 
-  -- a task that is first released at the end of the span or later demands nothing
-  pub demand-none : span ≤ firstRelease (task .release) → Wrote out out 0 (demandOf span task)
-  unfolding cover
-  demand-none h = record {
-    same = refl;
-    count = omega arith;
-    front =
-        demand-is [] tt
-        (λ t k. sym (done-quiet (gains task) (λ _. 1) span (λ u l. ap (λ b. pick b (task .work) 0) (none-before (task .release) u (omega arith))) t k))
-        (λ t k. refl);
-  }
+  -- where the number is 0 it is ready
+  pub ready-by : (room : Bool) → openedOf text tick room .refusal .number ≡ 0 → Ready room
+  ready-by room z = go (way room)
+    where
+      go : Way room → Ready room
+      go (ready r) = r
+      go (refused n e few a) = absurd (omega arith)
 
-  -- ---- the last window
-
-  module _ {now new : List ℕ} {s e n r m : ℕ} (k : Walk (task .release) (task .work) span out now s e n r) (past : span ≤ r)
-      (d : Drawn now new m (with-window (take n now) s (min e span))) where
-    -- below the span it is covered what the task gains
-    last-covers : (t : ℕ) → t < span → cover (take m new) t ≡ smooth (gains task) t
-    last-covers t h =
-        d .covers t
-        ∙ ap (λ (x : ℕ). cover (take n now) t + x) (inside-cut span s e t h (decLe e span) (decLe s t))
-        ∙ ap (λ (f : ℕ → ℕ). f t) (sym (k .covers))
-        ∙ smooth-past (gainsBefore (task .release) (task .work) r) (gains task) t (λ u l. gains-early (task .release) (task .work) r u (omega arith))
-
-    -- from the end of the span on it covers nothing
-    last-over : (t : ℕ) → span ≤ t → cover (take m new) t ≡ 0
-    last-over t h =
-        omega (arith, d .covers t, k .curve .curve .over t (omega (arith, k .started)), inside-late s (min e span) t (omega arith))
-
-    -- what is written is the demand
-    pub demand-last : Wrote out new m (demandOf span task)
-    demand-last = record {
-      same = d .same ∙ k .same;
-      count = d .count;
-      front = demand-is (take m new) (plain-apart 0 (take m new) (d .plain)) last-covers last-over;
-    }
+  -- and the table obeys the rules
+  pub ready-obeyed : (room : Bool) (o : Opened) → o ≡ openedOf text tick room → o .refusal .number ≡ 0 → Obeyed (o .table) × (room ≡ true)
+  ready-obeyed room o e z =
+      let r = ready-by room (ap (λ (x : Opened). x .refusal .number) (sym e) ∙ z) in
+      (rw (e, r .table) (accepted-obeyed text (r .accepted)), r .roomy)

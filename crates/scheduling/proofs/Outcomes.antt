@@ -4,6 +4,7 @@ use mathlib.Core.Path.{_≡_, refl, sym, ap, _∙_}
 use mathlib.Core.List.{List}
 use mathlib.Core.Bool.{true}
 use borrow.Author.Tests.{lt-leb}
+use Rattle.refusals.specs.Refusals.{noRefusal}
 use Rattle.reading.specs.Reading.{readingOf}
 use Rattle.reading.specs.declared.Answer.the-variants.{Accepted}
 use Rattle.machine.specs.Run.{holderAt, runnerAt}
@@ -43,16 +44,16 @@ same-all number p v w =
 
 pub asks-once : (text : List ℕ) (tick : ℕ) (a b c d e f : List ℕ) {r q : Who} {a₁ b₁ c₁ d₁ e₁ f₁ a₂ b₂ c₂ d₂ e₂ f₂ : List ℕ}
     → Asks text tick a b c d e f r a₁ b₁ c₁ d₁ e₁ f₁ → Asks text tick a b c d e f q a₂ b₂ c₂ d₂ e₂ f₂ → Same r q a₁ b₁ c₁ d₁ e₁ f₁ a₂ b₂ c₂ d₂ e₂ f₂
-asks-once text tick a b c d e f p o = same-all (λ (w : Who). w .number) (p .answer ∙ sym (o .answer)) (p .buffers) (o .buffers)
+asks-once text tick a b c d e f p o = same-all (λ (w : Who). w .refusal .number) (p .answer ∙ sym (o .answer)) (p .buffers) (o .buffers)
 
 pub analyses-once : (text : List ℕ) (a b c d e f : List ℕ) {r q : Analysis} {a₁ b₁ c₁ d₁ e₁ f₁ a₂ b₂ c₂ d₂ e₂ f₂ : List ℕ}
     → Analyses text a b c d e f r a₁ b₁ c₁ d₁ e₁ f₁ → Analyses text a b c d e f q a₂ b₂ c₂ d₂ e₂ f₂ → Same r q a₁ b₁ c₁ d₁ e₁ f₁ a₂ b₂ c₂ d₂ e₂ f₂
-analyses-once text a b c d e f p o = same-all (λ (w : Analysis). w .number) (p .answer ∙ sym (o .answer)) (p .buffers) (o .buffers)
+analyses-once text a b c d e f p o = same-all (λ (w : Analysis). w .refusal .number) (p .answer ∙ sym (o .answer)) (p .buffers) (o .buffers)
 
 -- ---- for every accepted text and every tick of its span, with room enough, the answer is the machine's
 
 pub who-is-machine : (text : List ℕ) (tick : ℕ) → readingOf text .answer ≡ Accepted → tick < readingOf text .table .span
-    → whoOf text tick true ≡ record { number = 0; line = 0; holder = holderAt (readingOf text .table) tick; runner = runnerAt (readingOf text .table) tick }
+    → whoOf text tick true ≡ record { refusal = noRefusal; holder = holderAt (readingOf text .table) tick; runner = runnerAt (readingOf text .table) tick }
 who-is-machine text tick e h =
     let ok = accepted-obeyed text e in
     rw (e, lt-leb (readingOf text .table .span) tick h, holder-agrees (readingOf text .table) ok tick h, runner-agrees (readingOf text .table) ok tick h)

@@ -8,13 +8,15 @@ use Rattle.table.specs.declared.Table.{Table}
 use Rattle.answers.specs.Answers.{serverAnswers, taskAnswers, noServerAnswer, noTaskAnswer}
 use Rattle.answers.specs.Jobs.{ServerSays, TaskSays}
 use Rattle.answers.specs.declared.Analysis.{Analysis}
-use Rattle.scheduling.specs.Buffers.{roomy, answerOf, Buffers}
+use Rattle.refusals.specs.Refusals.{noRefusal}
+use Rattle.refusals.specs.declared.Refusal.{Refusal}
+use Rattle.opening.specs.Opening.{roomy, answerOf}
+use Rattle.scheduling.specs.Buffers.{Buffers}
 
 -- "A refusal hands back number and line only"
-abbrev pub notAnalysed : ℕ → ℕ → Analysis
-notAnalysed number line = record {
-  number = number;
-  line = line;
+abbrev pub notAnalysed : Refusal → Analysis
+notAnalysed refusal = record {
+  refusal = refusal;
   span = 0;
   «servers_n» = 0;
   «tasks_n» = 0;
@@ -25,8 +27,7 @@ notAnalysed number line = record {
 -- of an accepted table
 abbrev pub analysed : Table → Analysis
 analysed table = record {
-  number = 0;
-  line = 0;
+  refusal = noRefusal;
   span = table .span;
   «servers_n» = table .«servers_n»;
   «tasks_n» = table .«tasks_n»;
@@ -40,7 +41,7 @@ analysisOf text room = answerOf notAnalysed analysed text room
 -- of a text and six work buffers, the answers and the buffers afterwards
 pub record Analyses (text : List ℕ) (a b c d e f : List ℕ) (r : Analysis) (a′ b′ c′ d′ e′ f′ : List ℕ) : Type 0 where
   pub answer : r ≡ analysisOf text (roomy a b c d e f)
-  pub buffers : Buffers (r .number) a b c d e f a′ b′ c′ d′ e′ f′
+  pub buffers : Buffers (r .refusal .number) a b c d e f a′ b′ c′ d′ e′ f′
 
 -- what the answers say of the machine's run: of each server and of each task of the table
 pub record Says (table : Table) (a : Analysis) : Type 0 where

@@ -2,3 +2,5 @@ pub mod Divisors
 pub mod Entries
 pub mod Spans
 pub mod Differences
+pub mod Places
+pub mod Obeyed

@@ -9,8 +9,8 @@ use native.Mathlib.Decide.{ℕ-discrete}
 use lib.ListN.{length, getD, take, drop}
 use lib.Dec.{eqb, leb}
 use borrow.Author.Tests.{eqb-true, leb-true, le-leb}
-use Rattle.windows.specs.Windows.{pick}
-use Rattle.windows.proofs.Ticks.{and-left, and-right}
+use Rattle.basics.specs.Choice.{pick}
+use Rattle.basics.proofs.Tests.{and-left, and-right}
 use Rattle.table.specs.Rules.{all, between, inTicks, serverObeys, releaseObeys, taskObeys, noServer, noTask}
 use Rattle.table.specs.Euclid.{IsLcm}
 use Rattle.table.specs.Span.{isMultiple, firstMultiple, spanOf, serverPeriods, everyPeriod, taskPeriods}

@@ -3,7 +3,7 @@ use Prim.Native.Nat.{ℕ, zero, suc, _%_}
 use mathlib.Core.List.{List, [], _∷_, _++_}
 use mathlib.Core.Bool.{Bool, true, false}
 use lib.Dec.{eqb}
-use Rattle.windows.specs.Windows.{pick}
+use Rattle.basics.specs.Choice.{pick}
 use Rattle.table.specs.Rules.{all}
 use Rattle.table.specs.declared.Server.{Server}
 use Rattle.table.specs.declared.Task.{Task}

@@ -91,8 +91,9 @@ fn put_state(out: &mut [u8; 65536], n: usize, array: &[u32; GUARDED], count: usi
 
 // Puts what the analysis answered.
 fn put_analysis(out: &mut [u8; 65536], n: usize, analysis: Analysis) -> usize {
-    if analysis.number != 0 {
-        return put_refused(out, n, analysis.number, analysis.line);
+    let refusal = analysis.refusal;
+    if refusal.number != 0 {
+        return put_refused(out, n, refusal);
     }
     let n1 = put_word(out, n, b"answers");
     let n2 = put_number(out, n1, analysis.span as u64);
@@ -102,8 +103,9 @@ fn put_analysis(out: &mut [u8; 65536], n: usize, analysis: Analysis) -> usize {
 
 // Puts who holds a tick and who runs in it.
 fn put_who(out: &mut [u8; 65536], n: usize, who: Who) -> usize {
-    if who.number != 0 {
-        return put_refused(out, n, who.number, who.line);
+    let refusal = who.refusal;
+    if refusal.number != 0 {
+        return put_refused(out, n, refusal);
     }
     let n1 = put_word(out, n, b"who");
     let n2 = put_number(out, n1, who.holder as u64);

@@ -34,6 +34,7 @@ use batch::read_lines;
 use calls::Call;
 use calls::Rooms;
 use calls::put_call;
+use refusals::Refusal;
 use reports::put_machine_report;
 use reports::put_report;
 use reports::put_with_room;
@@ -53,10 +54,10 @@ const BYTES: u32 = 4096;
 const NUMBERS: u32 = 16_008;
 
 // Puts a refusal: its number and line.
-fn put_refused(out: &mut [u8; 65536], n: usize, number: u32, line: u32) -> usize {
+fn put_refused(out: &mut [u8; 65536], n: usize, refusal: Refusal) -> usize {
     let n1 = put_word(out, n, b"refused");
-    let n2 = put_number(out, n1, number as u64);
-    put_number(out, n2, line as u64)
+    let n2 = put_number(out, n1, refusal.number as u64);
+    put_number(out, n2, refusal.line as u64)
 }
 
 // Reads a space and the number behind it, `most` at most.

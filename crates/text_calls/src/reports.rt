@@ -1,9 +1,9 @@
 // Kinds 1, 2 and 5: reports. `n` bytes wait at the front of `out`, and each function that puts answers how many wait after it.
+use crate::put_refused;
 use batch::put_bad;
 use batch::put_byte;
 use batch::put_number;
 use batch::put_word;
-use curves::Ground;
 use curves::Written;
 use watching::put_answer;
 ghost use Prim.Native.Nat.{_≤_, _<_};
@@ -65,15 +65,6 @@ fn put_digits(out: &mut [u8; 65536], n: usize, bytes: &[u8]) -> usize {
     m
 }
 
-// Puts why a report was not written: for want of room, the one ground that there is.
-fn put_ground(out: &mut [u8; 65536], n: usize, ground: Ground) -> usize {
-    match ground {
-        Ground::NoRoom => put_word(out, n, b"refused 11 0"),
-        Ground::ArgumentZero => put_word(out, n, b"other"),
-        Ground::NotPlain => put_word(out, n, b"other"),
-    }
-}
-
 // Puts what the call for a report answered.
 fn put_written(out: &mut [u8; 65536], n: usize, reported: Written) -> usize {
     match reported {
@@ -81,7 +72,7 @@ fn put_written(out: &mut [u8; 65536], n: usize, reported: Written) -> usize {
             let m = put_word(out, n, b"count");
             put_number(out, m, count as u64)
         }
-        Written::Refused(ground) => put_ground(out, n, ground),
+        Written::Refused(refusal) => put_refused(out, n, refusal),
     }
 }
 

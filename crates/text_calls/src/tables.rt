@@ -1,11 +1,11 @@
 // Kind 3: what reading answers to a text, on one line. `n` bytes wait at the front of `out`, and each function answers how many wait after it.
+use crate::put_refused;
 use batch::put_byte;
 use batch::put_number;
 use batch::put_word;
 use reading::Answer;
-use reading::Fault;
 use reading::Reading;
-use reading::number_of;
+use refusals::Refusal;
 use table::Kind;
 use table::Release;
 use table::Server;
@@ -18,12 +18,9 @@ fn put_field(out: &mut [u8; 65536], n: usize, value: u32) -> usize {
 }
 
 // Puts a refusal: its number, line and place.
-fn put_fault(out: &mut [u8; 65536], n: usize, fault: Fault) -> usize {
-    let what = fault.what;
-    let n1 = put_word(out, n, b"refused");
-    let n2 = put_field(out, n1, number_of(what));
-    let n3 = put_field(out, n2, fault.line);
-    put_field(out, n3, fault.place)
+fn put_fault(out: &mut [u8; 65536], n: usize, refusal: Refusal) -> usize {
+    let m = put_refused(out, n, refusal);
+    put_field(out, m, refusal.place)
 }
 
 // Puts a server's kind.
@@ -112,7 +109,7 @@ fn put_answer(out: &mut [u8; 65536], n: usize, read: Reading) -> usize {
     let table = read.table;
     match answer {
         Answer::Accepted => put_table(out, n, table),
-        Answer::Refused(fault) => put_fault(out, n, fault),
+        Answer::Refused(refusal) => put_fault(out, n, refusal),
     }
 }
 

@@ -56,8 +56,9 @@ fn put_ticks(out: &mut [u8; 65536], n: usize, text: &[u8], table: Table) -> usiz
 // Puts the line of a text: its ticks, or its refusal.
 pub fn put_line(out: &mut [u8; 65536], n: usize, text: &[u8]) -> usize {
     let who = ask(text, 0);
-    if who.number != 0 {
-        let m = put_refused(out, n, who.number, who.line);
+    let refusal = who.refusal;
+    if refusal.number != 0 {
+        let m = put_refused(out, n, refusal);
         return put_byte(out, m, b'\n');
     }
     let read = reading::read(text);

@@ -1,103 +1,91 @@
-// The report from the tick machine alone: the machine is stepped over the whole span, and what the report says of each server and each
-// task is noted tick by tick.
+// The report from the tick machine alone: the machine is stepped over the whole span, it is noted which server holds each tick and which task
+// runs in it, and what the report says of each server and each task is counted from these notes.
 mod counting;
-mod printing;
 mod servers;
 mod tasks;
 
-use printing::put_fault;
+use answers::Analysis;
+use basics::stored;
+use batch::put_word;
 use printing::put_report;
 use reading::Answer;
-use servers::after_tick;
+use refusals::Refusal;
+use refusals::no_refusal;
+use servers::server_answers;
 use table::Table;
-use tasks::after_run;
-use tasks::first_jobs;
+use tasks::task_answers;
+ghost use Prim.Native.Nat.{_≤_};
 
-// What is known of a task's jobs: the release of the first job not ended and how long it has run, and the worst response so far, with the
-// release of the first job that attained it. The worst is 0 while no job has ended; the release is NEVER where no job follows.
-pub struct Jobs {
-    pub release: u32,
-    pub ran: u32,
-    pub worst: u32,
-    pub worst_release: u32,
-}
-
-// What is known of a server's periods: how many free ticks the one under way has had, how many full ones are over, and the first short one.
-pub struct Periods {
-    pub free: u32,
-    pub full: u32,
-    pub any_short: bool,
-    pub short: u32,
-}
-
-// What is known of all tasks and servers of a table. The number is that of a refused step, or 0.
-pub struct Watched {
-    pub number: u32,
-    pub jobs: [Jobs; 64],
-    pub periods: [Periods; 16],
-}
-
-// Before tick 0.
-fn nothing_seen(table: Table) -> Watched {
-    let jobs = first_jobs(table);
-    let none = Periods {
-        free: 0,
-        full: 0,
-        any_short: false,
-        short: 0,
-    };
-    Watched {
-        number: 0,
-        jobs,
-        periods: [none; 16],
-    }
-}
-
-// Where a step was refused.
-fn refused(watched: Watched, number: u32) -> Watched {
-    let mut next = watched;
-    next.number = number;
-    next
-}
-
-// What is known after a tick that a server held and a task ran in.
-fn after_step(watched: Watched, table: Table, finish: u32, holder: u32, runner: u32) -> Watched {
-    let old_jobs = watched.jobs;
-    let old_periods = watched.periods;
-    let jobs = after_run(old_jobs, table, finish, runner);
-    let periods = after_tick(old_periods, table, finish, holder);
-    Watched {
-        number: watched.number,
-        jobs,
-        periods,
-    }
-}
-
-// Steps the machine from tick 0 to the end of a table's span.
-pub fn watch(table: Table) -> Watched {
+// Steps the machine from tick 0 on, and notes each tick's holder and runner, 0 for none. Answers the refusal of the last step, or the one
+// given where there is no tick.
+fn watch(
+    table: Table,
+    ticks: usize,
+    refusal: Refusal,
+    holders: &mut [u32; 16000],
+    runners: &mut [u32; 16000],
+) -> Refusal
+    requires { ⌜ ticks ≤ 16000 ⌝ }
+{
     let mut state = machine::start();
-    let mut watched = nothing_seen(table);
-    let mut tick: u32 = 0;
-    while tick < table.span {
+    let mut last = refusal;
+    let mut i: usize = 0;
+    while i < ticks {
         let stepped = state.step(table);
-        if stepped.number != 0 {
-            return refused(watched, stepped.number);
-        }
-        tick += 1;
-        watched = after_step(watched, table, tick, stepped.holder, stepped.runner);
         let next = stepped.next;
+        let refusal = stepped.refusal;
+        holders[i] = stepped.holder;
+        runners[i] = stepped.runner;
         state = next;
+        last = refusal;
+        i += 1;
     }
-    watched
+    last
+}
+
+// The answers of a table, or a refusal. A refused text has an empty table, with no tick to step.
+fn analysis_of(table: Table, refused: Refusal) -> Analysis
+    ensures { λ r. ⌜ (r .«servers_n» ≤ 16) × (r .«tasks_n» ≤ 64) ⌝ }
+{
+    let mut holders = [0u32; 16000];
+    let mut runners = [0u32; 16000];
+    let ticks = stored(table.span as usize, 16000);
+    let refusal = watch(table, ticks, refused, &mut holders, &mut runners);
+    let servers_n = stored(table.servers_n, 16);
+    let tasks_n = stored(table.tasks_n, 64);
+    let servers = server_answers(table, servers_n, ticks, &holders);
+    let tasks = task_answers(table, tasks_n, ticks, &runners);
+    Analysis {
+        refusal,
+        span: table.span,
+        servers_n,
+        tasks_n,
+        servers,
+        tasks,
+    }
+}
+
+// Why a text is refused, if it is.
+fn refusal_of(answer: Answer) -> Refusal {
+    match answer {
+        Answer::Accepted => no_refusal(),
+        Answer::Refused(refusal) => refusal,
+    }
+}
+
+// The answers of a text's table, or the refusal of the text.
+fn analysed(text: &[u8]) -> Analysis
+    ensures { λ r. ⌜ (r .«servers_n» ≤ 16) × (r .«tasks_n» ≤ 64) ⌝ }
+{
+    let read = reading::read(text);
+    let answer = read.answer;
+    let table = read.table;
+    analysis_of(table, refusal_of(answer))
 }
 
 // Puts the report of a text's table, or why the text is refused.
 pub fn put_answer(out: &mut [u8; 65536], n: usize, text: &[u8]) -> usize {
-    let read = reading::read(text);
-    let answer = read.answer;
-    let table = read.table;
-    match answer {
-        Answer::Accepted => put_report(out, n, table, watch(table)),
-        Answer::Refused(fault) => put_fault(out, n, fault),
-    }
+    let mut page = [0u8; 4240];
+    let count = put_report(&mut page, analysed(text));
+    put_word(out, n, &page[..count])
 }

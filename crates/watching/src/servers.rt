@@ -1,15 +1,27 @@
-// What is noted of the servers: the free ticks of each full period.
-use crate::Periods;
+// What is counted of the servers: the free ticks of each full period.
 use crate::counting::plus;
+use answers::ServerAnswer;
+use answers::Short;
 use table::Server;
 use table::Table;
+ghost use Prim.Native.Nat.{_≤_};
 
-// Whether no server above a server holds a tick.
-fn is_free(number: u32, holder: u32) -> bool {
-    if holder == 0 {
-        return true;
+// Before the first full period is over.
+fn no_answer() -> ServerAnswer {
+    ServerAnswer {
+        full: 0,
+        short: Short::Never,
     }
-    number <= holder
+}
+
+// How many ticks were free with one more: a tick is, if no server above the one with the number holds it.
+fn with_tick(free: u32, number: u32, holder: u32) -> u32 {
+    if holder != 0 {
+        if holder < number {
+            return free;
+        }
+    }
+    plus(free, 1)
 }
 
 // Whether a period ends with a tick.
@@ -20,46 +32,61 @@ fn ends_with(period: u32, finish: u32) -> bool {
     finish % period == 0
 }
 
-// A server's periods, once a full one is over.
-fn after_period(periods: Periods, capacity: u32) -> Periods {
-    let mut next = periods;
-    next.free = 0;
-    next.full = plus(periods.full, 1);
-    if periods.any_short {
-        return next;
+// The first short period, once one is over that had so many free ticks.
+fn with_short(first: Short, period: u32, free: u32, capacity: u32) -> Short {
+    match first {
+        Short::First(_) => first,
+        Short::Never => if free < capacity {
+            Short::First(period)
+        } else {
+            first
+        },
     }
-    if periods.free < capacity {
-        next.any_short = true;
-        next.short = periods.full;
-    }
-    next
 }
 
-// A server's periods, once a tick is over.
-fn one_after_tick(periods: Periods, server: Server, free: bool, finish: u32) -> Periods {
-    let mut next = periods;
-    if free {
-        next.free = plus(periods.free, 1);
-    }
-    if ends_with(server.period, finish) {
-        return after_period(next, server.capacity);
-    }
-    next
+// A server's answer, once one more full period is over.
+fn after_period(answer: ServerAnswer, free: u32, capacity: u32) -> ServerAnswer {
+    let first = answer.short;
+    let short = with_short(first, answer.full, free, capacity);
+    let full = plus(answer.full, 1);
+    ServerAnswer { full, short }
 }
 
-// All servers' periods, once a tick that a server, or none, held is over.
-pub fn after_tick(periods: [Periods; 16], table: Table, finish: u32, holder: u32) -> [Periods; 16] {
-    let mut next = periods;
+// A server's answer, from who holds each tick.
+fn server_answer(server: Server, number: u32, ticks: usize, holders: &[u32; 16000]) -> ServerAnswer
+    requires { ⌜ ticks ≤ 16000 ⌝ }
+{
+    let mut answer = no_answer();
+    let mut free: u32 = 0;
     let mut i: usize = 0;
-    while i < 16 {
-        if table.servers_n <= i {
-            break;
+    while i < ticks {
+        free = with_tick(free, number, holders[i]);
+        i += 1;
+        if ends_with(server.period, i as u32) {
+            answer = after_period(answer, free, server.capacity);
+            free = 0;
         }
-        let number = (i as u32) + 1;
+    }
+    answer
+}
+
+// All servers' answers.
+pub fn server_answers(
+    table: Table,
+    count: usize,
+    ticks: usize,
+    holders: &[u32; 16000],
+) -> [ServerAnswer; 16]
+    requires { ⌜ (count ≤ 16) × (ticks ≤ 16000) ⌝ }
+{
+    let none = no_answer();
+    let mut answers = [none; 16];
+    let mut i: usize = 0;
+    while i < count {
         let server = table.servers[i];
-        let old = next[i];
-        next[i] = one_after_tick(old, server, is_free(number, holder), finish);
+        let number = (i as u32) + 1;
+        answers[i] = server_answer(server, number, ticks, holders);
         i += 1;
     }
-    next
+    answers
 }

@@ -1,16 +1,32 @@
-// What is noted of the tasks: their jobs end in order of release, each when it has run for its work.
-use crate::Jobs;
+// What is counted of the tasks: their jobs end in order of release, each when it has run for its work.
 use crate::counting::NEVER;
 use crate::counting::plus;
+use answers::Response;
+use answers::TaskAnswer;
+use answers::WorstJob;
 use table::Release;
 use table::Table;
 use table::Task;
+ghost use Prim.Native.Nat.{_≤_};
 
-// The first release of a task.
-fn first_release(release: Release) -> u32 {
-    match release {
+// What is known of a task's jobs: the release of the first job not ended, or NEVER where no job follows; how long it has run; and the
+// answer of those that have ended.
+struct Jobs {
+    release: u32,
+    ran: u32,
+    ended: Response,
+}
+
+// Before a task's first job.
+fn before_first(releases: Release) -> Jobs {
+    let release = match releases {
         Release::Once(instant) => instant,
         Release::Every(offset, _) => offset,
+    };
+    Jobs {
+        release,
+        ran: 0,
+        ended: Response::None,
     }
 }
 
@@ -22,79 +38,112 @@ fn next_release(release: Release, last: u32) -> u32 {
     }
 }
 
-// Before a task's first job.
-fn jobs_from(release: u32) -> Jobs {
-    Jobs {
-        release,
-        ran: 0,
-        worst: 0,
-        worst_release: 0,
-    }
-}
-
-// Before tick 0.
-pub fn first_jobs(table: Table) -> [Jobs; 64] {
-    let none = jobs_from(NEVER);
-    let mut jobs = [none; 64];
-    let mut j: usize = 0;
-    while j < 64 {
-        if table.tasks_n <= j {
-            break;
-        }
-        let task = table.tasks[j];
-        let release = task.release;
-        jobs[j] = jobs_from(first_release(release));
-        j += 1;
-    }
-    jobs
-}
-
-// The response of a job that ends.
-fn response(release: u32, finish: u32) -> u32 {
-    if finish <= release {
+// Deadline minus response: below zero when late. No table gives a number above NEVER.
+fn margin(deadline: u32, response: u32) -> i32 {
+    if NEVER < deadline {
         return 0;
     }
-    finish - release
+    if NEVER < response {
+        return 0;
+    }
+    (deadline as i32) - (response as i32)
 }
 
-// The worst response, once a job ends.
-fn with_worst(jobs: Jobs, finish: u32) -> Jobs {
-    let mut next = jobs;
-    let took = response(jobs.release, finish);
-    if jobs.worst < took {
-        next.worst = took;
-        next.worst_release = jobs.release;
+// A job that ends.
+fn ended_job(release: u32, finish: u32, deadline: u32) -> WorstJob {
+    let response = if finish < release {
+        0
+    } else {
+        finish - release
+    };
+    let margin = margin(deadline, response);
+    WorstJob {
+        response,
+        release,
+        margin,
     }
-    next
+}
+
+// The worst of the jobs that have ended, once one more has: the first of two that are equal stays.
+fn worst_of(ended: Response, job: WorstJob) -> Response {
+    let Response::Worst(worst) = ended else {
+        return Response::Worst(job);
+    };
+    if worst.response < job.response {
+        return Response::Worst(job);
+    }
+    ended
 }
 
 // A task's jobs, once it has run for a tick.
 fn one_after_run(jobs: Jobs, task: Task, finish: u32) -> Jobs {
+    let before = jobs.ended;
     let ran = plus(jobs.ran, 1);
-    let mut next = jobs;
-    next.ran = ran;
     if ran < task.work {
-        return next;
+        return Jobs {
+            release: jobs.release,
+            ran,
+            ended: before,
+        };
     }
-    let release = task.release;
-    let mut ended = with_worst(jobs, finish);
-    ended.ran = 0;
-    ended.release = next_release(release, jobs.release);
-    ended
+    let releases = task.release;
+    let ended = worst_of(before, ended_job(jobs.release, finish, task.deadline));
+    let release = next_release(releases, jobs.release);
+    Jobs {
+        release,
+        ran: 0,
+        ended,
+    }
 }
 
-// All tasks' jobs, once a task, or none, has run in a tick.
-pub fn after_run(jobs: [Jobs; 64], table: Table, finish: u32, runner: u32) -> [Jobs; 64] {
-    if runner == 0 {
-        return jobs;
+// A task's answer with the span: a job released in it has not ended, or all have.
+fn said_of(jobs: Jobs, ticks: usize) -> TaskAnswer {
+    let ended = jobs.ended;
+    let release = jobs.release;
+    let response = if (release as usize) < ticks {
+        Response::Unfinished(release)
+    } else {
+        ended
+    };
+    TaskAnswer { response }
+}
+
+// A task's answer, from who runs in each tick.
+fn task_answer(task: Task, number: u32, ticks: usize, runners: &[u32; 16000]) -> TaskAnswer
+    requires { ⌜ ticks ≤ 16000 ⌝ }
+{
+    let releases = task.release;
+    let mut jobs = before_first(releases);
+    let mut i: usize = 0;
+    while i < ticks {
+        let runner = runners[i];
+        i += 1;
+        if runner == number {
+            jobs = one_after_run(jobs, task, i as u32);
+        }
     }
-    let j = (runner - 1) as usize;
-    if 64 <= j {
-        return jobs;
+    said_of(jobs, ticks)
+}
+
+// All tasks' answers.
+pub fn task_answers(
+    table: Table,
+    count: usize,
+    ticks: usize,
+    runners: &[u32; 16000],
+) -> [TaskAnswer; 64]
+    requires { ⌜ (count ≤ 64) × (ticks ≤ 16000) ⌝ }
+{
+    let none = TaskAnswer {
+        response: Response::None,
+    };
+    let mut answers = [none; 64];
+    let mut j: usize = 0;
+    while j < count {
+        let task = table.tasks[j];
+        let number = (j as u32) + 1;
+        answers[j] = task_answer(task, number, ticks, runners);
+        j += 1;
     }
-    let task = table.tasks[j];
-    let old = jobs[j];
-    let mut next = jobs;
-    next[j] = one_after_run(old, task, finish);
-    next
+    answers
 }

@@ -7,7 +7,8 @@ use native.Mathlib.Omega.{arith}
 use native.Mathlib.Decide.{decLe, decLt}
 use lib.Dec.{leb}
 use borrow.Author.Tests.{leb-true, leb-false, le-leb, lt-leb}
-use Rattle.windows.specs.Windows.{pick, inside, cover, size, endOf, isPlain, upto, waiting, done, always, windowsOf, addUp, _⊕_}
+use Rattle.basics.specs.Choice.{pick}
+use Rattle.windows.specs.Windows.{inside, cover, size, endOf, isPlain, upto, waiting, done, always, windowsOf, addUp, _⊕_}
 use Rattle.windows.specs.Walks.{place, merge, grow, grown}
 use Rattle.windows.proofs.Ticks.{inside-yes, inside-early, inside-late, inside-one, inside-is, Apart, apart-lower, cover-before, cover-after, cover-one, end-above, apart-plain}
 use Rattle.windows.proofs.Counts.{upto-⊕, upto-inside, count-inside, count-all}

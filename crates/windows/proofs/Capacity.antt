@@ -7,7 +7,8 @@ use native.Mathlib.Nat.{mod-lt, mod-eq-of-lt, mod-self, suc-mod, zero-mod}
 use native.Mathlib.Decide.{decLt, ℕ-discrete}
 use lib.Dec.{eqb}
 use borrow.Author.Tests.{eq-eqb, ne-eqb}
-use Rattle.windows.specs.Windows.{pick, upto, waiting, done, _⊕_}
+use Rattle.basics.specs.Choice.{pick}
+use Rattle.windows.specs.Windows.{upto, waiting, done, _⊕_}
 use Rattle.windows.specs.Servers.{soFar, limited, Before, before, holdsAt, held}
 use Rattle.windows.proofs.Counts.{upto-same, upto-rises}
 use Rattle.windows.proofs.Queue.{smooth, smoothing-absorbed, done-past}
@@ -97,3 +98,23 @@ held-smoothing C T x y free p unit =
     held-once C T (x ⊕ y) free p (held C T (smooth x ⊕ y) free)
     (held-done C T (smooth x ⊕ y) free p
     ∙ smoothing-absorbed x y (limited C T free (held C T (smooth x ⊕ y) free)) (λ t. omega (arith, unit t)))
+
+-- a held tick is free
+pub held-is-free : (C T : ℕ) (x free : ℕ → ℕ) (t : ℕ) → held C T x free t ≤ free t
+unfolding held
+held-is-free C T x free t = omega arith
+
+-- a capacity of a whole period is no limit: what is held is what the queue does
+module _ (C T : ℕ) (x free : ℕ → ℕ) (p : 0 < T) (unit : (t : ℕ) → free t ≤ 1) (h : T ≤ C) where
+  so-far-most : (t : ℕ) → soFar T (held C T x free) t ≤ t % T
+  so-far-most zero = omega (arith, so-far-first T (held C T x free) p 0 (zero-mod T))
+  so-far-most (suc t) = go (so-far-most t) (ℕ-discrete (suc t % T) 0)
+    where
+      go : soFar T (held C T x free) t ≤ t % T → Dec (suc t % T ≡ 0) → soFar T (held C T x free) (suc t) ≤ suc t % T
+      go ih (yes e) = omega (arith, so-far-first T (held C T x free) p (suc t) e)
+      go ih (no e) = omega (arith, so-far-next T (held C T x free) p t e, mod-next T t p e, held-is-free C T x free t, unit t)
+
+  pub held-unlimited : held C T x free ≡ done x free
+  held-unlimited =
+      held-done C T x free p
+      ∙ ap (done x) (fun-ext (λ t. omega (arith, so-far-most t, mod-lt t p, unit t)))

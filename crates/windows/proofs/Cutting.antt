@@ -8,7 +8,8 @@ use native.Mathlib.Nat.{mod-lt, mod-eq-of-lt, mod-self, suc-mod, add-suc, add-ze
 use native.Mathlib.Decide.{decLt, ℕ-discrete}
 use lib.Dec.{eqb}
 use borrow.Author.Tests.{eqb-true, eqb-false, eq-eqb, ne-eqb}
-use Rattle.windows.specs.Windows.{pick, inside, cover, endOf, parted, cutAt, _⊕_}
+use Rattle.basics.specs.Choice.{pick}
+use Rattle.windows.specs.Windows.{inside, cover, endOf, parted, cutAt, _⊕_}
 use Rattle.windows.specs.Walks.{cutFrom}
 use Rattle.windows.proofs.Ticks.{Apart, inside-split, end-above, end-rest}
 

@@ -10,3 +10,5 @@ pub mod Serving
 pub mod Fitting
 pub mod Examples
 pub mod Stretching
+pub mod Turns
+pub mod WindowsAt

@@ -7,7 +7,8 @@ use native.Mathlib.Omega.{arith}
 use native.Mathlib.Decide.{decLe, decLt, ℕ-discrete}
 use lib.Dec.{leb, eqb}
 use borrow.Author.Tests.{leb-true, leb-false, eqb-true, eqb-false, eq-eqb, ne-eqb}
-use Rattle.windows.specs.Windows.{pick, cover, endOf, size, upto, Instant, at, notProvided, firstGiven, provide}
+use Rattle.basics.specs.Choice.{pick}
+use Rattle.windows.specs.Windows.{cover, endOf, size, upto, Instant, at, notProvided, firstGiven, provide}
 use Rattle.windows.specs.Walks.{walk}
 use Rattle.windows.proofs.Ticks.{Apart, cover-one, end-above, end-rest}
 use Rattle.windows.proofs.Counts.{upto-rises, count-cover, count-early, count-all}

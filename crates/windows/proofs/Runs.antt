@@ -7,7 +7,8 @@ use native.Mathlib.Omega.{arith}
 use native.Mathlib.Decide.{decLe, decLt, ℕ-discrete}
 use lib.Dec.{ltb, eqb}
 use borrow.Author.Tests.{ltb-true, ltb-false, eqb-true, eqb-false}
-use Rattle.windows.specs.Windows.{pick, inside, cover, endOf, join, runs, windowsOf, _⊕_}
+use Rattle.basics.specs.Choice.{pick}
+use Rattle.windows.specs.Windows.{inside, cover, endOf, join, runs, windowsOf, _⊕_}
 use Rattle.windows.proofs.Ticks.{inside-yes, inside-early, inside-late, Apart, apart-lower, cover-before, cover-after, join-apart, join-cover, apart-same}
 
 -- every end is at hi or before

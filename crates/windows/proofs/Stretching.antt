@@ -8,7 +8,8 @@ use native.Mathlib.Omega.{arith}
 use native.Mathlib.Decide.{decLe, decLt}
 use lib.Dec.{ltb}
 use borrow.Author.Tests.{lt-ltb, le-ltb}
-use Rattle.windows.specs.Windows.{pick, window, join, Fit, passed, part, fit, isPlain}
+use Rattle.basics.specs.Choice.{pick}
+use Rattle.windows.specs.Windows.{window, join, Fit, passed, part, fit, isPlain}
 use Rattle.windows.specs.Walks.{raise, servedFirst, restFirst, openFirst}
 use Rattle.windows.proofs.Ticks.{Apart, apart-lower, window-some, window-none, window-apart, join-join, join-gap}
 use Rattle.windows.proofs.Fitting.{fit-no-demand, fit-no-supply, fit-part, Fitted, fitted}

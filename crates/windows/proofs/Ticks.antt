@@ -8,7 +8,9 @@ use native.Mathlib.Numerals.{add-one}
 use native.Mathlib.Decide.{decLe, decLt}
 use lib.Dec.{leb, ltb, eqb}
 use borrow.Author.Tests.{leb-true, leb-false, le-leb, lt-leb, ltb-true, ltb-false, lt-ltb, le-ltb, eqb-true, eqb-false, eq-eqb, ne-eqb}
-use Rattle.windows.specs.Windows.{pick, inside, cover, size, endOf, plainFrom, isPlain, window, join, _⊕_}
+use Rattle.basics.proofs.Tests.{and-left, and-right}
+use Rattle.basics.specs.Choice.{pick}
+use Rattle.windows.specs.Windows.{inside, cover, size, endOf, plainFrom, isPlain, window, join, _⊕_}
 
 -- ---- one window
 
@@ -133,14 +135,6 @@ apart-same (s ∷ (e ∷ a)) (s′ ∷ (e′ ∷ b)) lo p q h =
     cc
 
 -- ---- a plain curve stands apart and ends at 1,000,000 or before
-
-pub and-left : (a b : Bool) → (a && b) ≡ true → a ≡ true
-and-left true b h = refl
-and-left false b h = h
-
-pub and-right : (a b : Bool) → (a && b) ≡ true → b ≡ true
-and-right true b h = h
-and-right false b h = cc
 
 -- what a plain curve has at its front
 pub record Front (low s e : ℕ) (r : List ℕ) : Type 0 where

@@ -1,7 +1,8 @@
 -- Document 01, 'Servers, one tick at a time': which of the free ticks a server with a capacity and a period holds.
 use Prim.Native.Nat.{ℕ, zero, suc, _+_, _-_, _%_, min}
 use lib.Dec.{eqb}
-use Rattle.windows.specs.Windows.{pick, upto}
+use Rattle.basics.specs.Choice.{pick}
+use Rattle.windows.specs.Windows.{upto}
 
 -- how many units r has in the period of T ticks that t lies in, at ticks below t
 abbrev pub soFar : ℕ → (ℕ → ℕ) → ℕ → ℕ

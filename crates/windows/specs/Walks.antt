@@ -3,7 +3,8 @@
 use Prim.Native.Nat.{ℕ, suc, _+_, _-_, max}
 use mathlib.Core.List.{List, [], _∷_}
 use lib.Dec.{leb, ltb}
-use Rattle.windows.specs.Windows.{pick, join, parted, cutAt, Fit, Instant, at, notProvided}
+use Rattle.basics.specs.Choice.{pick}
+use Rattle.windows.specs.Windows.{join, parted, cutAt, Fit, Instant, at, notProvided}
 
 -- ---- adding up: the windows of both in order, each joined to the open one if it starts in time
 

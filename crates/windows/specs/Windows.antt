@@ -5,11 +5,7 @@ use mathlib.Core.List.{List, [], _∷_}
 use mathlib.Core.Bool.{Bool, true, false, _&&_}
 use lib.ListN.{length}
 use lib.Dec.{ltb, leb, eqb}
-
--- a choice by a test
-abbrev pub pick {ℓ} : {A : Type ℓ} → Bool → A → A → A
-pick true a b = a
-pick false a b = b
+use Rattle.basics.specs.Choice.{pick}
 
 -- ---- windows and curves
 

@@ -1,7 +1,6 @@
 -- `curves::cut` meets its contract: each outcome from the tests that led to it.
-use Prim.Native.Nat.{ℕ, _<_, _≤_}
-use mathlib.Core.Path.{_≡_, refl, sym, ap, _∙_}
-use mathlib.Core.Bool.{true, false, _&&_, and-true}
+use mathlib.Core.Path.{_≡_, refl, sym, _∙_}
+use mathlib.Core.Bool.{true}
 use native.Mathlib.Omega.{arith}
 use borrow.Author.Tests.{eq-eqb, ne-eqb, not-true, not-false, leb-true, le-leb}
 use lib.ListN.{length}
@@ -13,56 +12,76 @@ use borrow.Author.Needs.{needs}
 use Rattle.curves.proofs.cut.Statement.{statement}
 use Rattle.curves.proofs.cut.Tie as tie
 
+-- the call's start, seen from behind the first two tests
+abbrev start : tie.Else2 → tie.Start
+start c = c .before .before .before .before .before
+
 -- past the test, the curve is plain, and so the cut ends in time
-plain-so : (c : tie.Else2) → isPlain (c .before .before .before .before .before .args .curve .now) ≡ true
+plain-so : (c : tie.Else2) → isPlain (start c .args .curve .now) ≡ true
 plain-so c = sym (c .before .plain .ensures) ∙ not-false (c .before .plain .result) (c .if2 .left)
 
-ends-so : (c : tie.Else2) → leb (endOf (cutAt (c .before .before .before .before .before .args .period) (c .before .before .before .before .before .args .curve .now))) 1000000 ≡ true
-ends-so c =
-    le-leb _ _ (cut-end (c .before .before .before .before .before .args .period) 0 1000000 (c .before .before .before .before .before .args .curve .now) (plain-apart 0 _ (plain-so c)) (plain-end 0 _ (plain-so c)))
+ends-so : (c : tie.Else2) → leb (endOf (cutAt (start c .args .period) (start c .args .curve .now))) 1000000 ≡ true
+ends-so c = le-leb _ _ (cut-end (start c .args .period) 0 1000000 _ (plain-apart 0 _ (plain-so c)) (plain-end 0 _ (plain-so c)))
 
 -- past the count, it fits
-fits-so : (c : tie.Else3) → leb (length (cutAt (c .before .before .before .before .before .before .before .args .period) (c .before .before .before .before .before .before .before .args .curve .now))) (length (c .before .before .before .before .before .before .before .args .out .now)) ≡ true
+fits-so : (c : tie.Else3)
+    → let s = start (c .before .before) .args in leb (length (cutAt (s .period) (s .curve .now))) (length (s .out .now)) ≡ true
 fits-so c = sym (c .before .fits2 .ensures) ∙ not-false (c .before .fits2 .result) (c .if3 .left)
 
+refused-requires : tie.Need-refused-requires
+refused-requires c κs = search needs
+
 returns : tie.Need-returns
-returns c = rw (eq-eqb _ _ (c .if1 .taken)) (refl, refl)
+returns c = rw (eq-eqb _ _ (c .before .if1 .taken), c .refused .ensures) (refl, refl)
 
 plain-requires : tie.Need-plain-requires
 plain-requires c κs = search needs
 
+refused-requires-2 : tie.Need-refused-requires-2
+refused-requires-2 c κs = search needs
+
 returns-2 : tie.Need-returns-2
 returns-2 c =
-    let p = sym (c .before .plain .ensures) ∙ not-true (c .before .plain .result) (c .if2 .taken) in
-    rw (ne-eqb _ _ (c .before .before .if1 .left), p) (refl, refl)
+    let t = c .before .before .plain in
+    rw (ne-eqb _ _ (c .before .before .before .if1 .left), sym (t .ensures) ∙ not-true (t .result) (c .before .if2 .taken), c .refused2 .ensures) (refl, refl)
 
 fits-requires : tie.Need-fits-requires
 fits-requires c κs = (omega (arith, c .before .before .if1 .left), plain-so c)
 
+refused-requires-3 : tie.Need-refused-requires-3
+refused-requires-3 c κs = search needs
+
 returns-3 : tie.Need-returns-3
 returns-3 c =
-    let q = sym (c .before .fits2 .ensures) ∙ not-true (c .before .fits2 .result) (c .if3 .taken) in
-    rw (ne-eqb _ _ (c .before .before .before .before .if1 .left), plain-so (c .before .before), q) (refl, refl)
+    let t = c .before .before .fits2 in
+    let d = c .before .before .before in
+    rw (ne-eqb _ _ (d .before .before .if1 .left), plain-so d, sym (t .ensures) ∙ not-true (t .result) (c .before .if3 .taken), c .refused3 .ensures) (refl, refl)
 
 write-requires : tie.Need-write-requires
-write-requires c κs = (omega (arith, c .before .before .before .before .before .if1 .left), plain-so (c .before .before .before), leb-true _ _ (fits-so (c .before)))
+write-requires c κs =
+    let d = c .before .before .before in
+    (omega (arith, d .before .before .if1 .left), plain-so d, leb-true _ _ (fits-so (c .before)))
 
 same-length : tie.Need-same-length
 same-length c = search needs
 
 returns-4 : tie.Need-returns-4
 returns-4 c =
-    let e = c .before .before .write .ensures in
-    rw (ne-eqb _ _ (c .before .before .before .before .before .before .before .before .if1 .left), plain-so (c .before .before .before .before .before .before), fits-so (c .before .before .before .before), ends-so (c .before .before .before .before .before .before)) (rw (e .0), e .1)
+    let w = c .before .before in
+    let d = w .before .before .before .before in
+    rw (ne-eqb _ _ (d .before .before .if1 .left), plain-so d, fits-so (w .before .before), ends-so d) (rw (w .write .ensures .0), w .write .ensures .1)
 
 pub cut-spec : {M : Type 1} → statement M
 cut-spec =
     tie.close
     (tie.spec
+    refused-requires
     returns
     plain-requires
+    refused-requires-2
     returns-2
     fits-requires
+    refused-requires-3
     returns-3
     write-requires
     same-length

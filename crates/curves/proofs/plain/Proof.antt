@@ -1,12 +1,13 @@
 -- `curves::plain` meets its contract. The loop's invariant: what is left of the curve is plain from `low` just when the whole is plain.
-use Prim.Native.Nat.{ℕ, _+_, _≤_, _-_}
-use mathlib.Core.Path.{_≡_, refl, sym, _∙_}
+use Prim.Native.Nat.{_+_, _≤_, _-_}
+use mathlib.Core.Path.{_≡_}
+use mathlib.Core.Bool.{and-false}
 use native.Mathlib.Omega.{arith}
 use borrow.Author.Needs.{needs}
 use borrow.Author.Tests.{lt-leb, le-leb, lt-ltb, le-ltb}
 use lib.ListN.{length, drop, getD, drop-of-length-le}
 use Rattle.windows.specs.Windows.{plainFrom, isPlain}
-use Rattle.curves.proofs.Turns.{drop-pair, drop-odd}
+use Rattle.windows.proofs.Turns.{drop-pair, drop-odd}
 use Rattle.curves.proofs.plain.Statement.{statement}
 use Rattle.curves.proofs.plain.Tie as tie
 
@@ -60,7 +61,7 @@ unfolding plainFrom
 returns-4 c =
     let l = c .before .before .before .before .before .before .before .before .args .curve .now in
     let i = c .before .before .before .before .before .before .before .loop .i in
-    rw (drop-pair _ _ (c .before .before .before .before .before .if1 .left), le-leb _ _ (c .before .before .if2 .left), lt-ltb _ _ (c .before .if3 .left), lt-leb (getD l (i + 1) 0) 1000000 (omega (arith, c .if4 .taken)))
+    rw (drop-pair _ _ (c .before .before .before .before .before .if1 .left), lt-leb (getD l (i + 1) 0) 1000000 (omega (arith, c .if4 .taken)), and-false, and-false)
     at (c .before .before .before .before .before .before .before .loop .inv .1)
 
 add-low : tie.Need-add-low Inv-loop μ-loop

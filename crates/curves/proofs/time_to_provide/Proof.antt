@@ -1,17 +1,18 @@
 -- `curves::time_to_provide` meets its contract. The loop's invariant: what is left of the curve is plain, and gives what is left of the
 -- amount when the whole gives the amount.
-use Prim.Native.Nat.{ℕ, _+_, _≤_, _<_, _-_}
+use Prim.Native.Nat.{_<_, _-_}
 use mathlib.Core.Path.{_≡_, refl, sym, ap, _∙_}
 use mathlib.Core.Bool.{true}
 use native.Mathlib.Omega.{arith}
 use borrow.Author.Tests.{lt-leb, le-leb, eq-eqb, ne-eqb, not-true, not-false}
 use lib.ListN.{length, drop, drop-of-length-le}
-use Rattle.windows.specs.Windows.{isPlain, provide}
+use Rattle.windows.specs.Windows.{isPlain}
 use Rattle.windows.specs.Walks.{walk}
 use Rattle.windows.proofs.Ticks.{plain-apart}
 use Rattle.windows.proofs.Providing.{walk-is}
-use Rattle.curves.specs.Refusals.{Outcome, answer, provideOutcome}
-use Rattle.curves.proofs.Turns.{Turn, plain-turn, drop-pair}
+use Rattle.refusals.specs.Outcomes.{answer}
+use Rattle.curves.specs.Refusals.{provideOutcome}
+use Rattle.windows.proofs.Turns.{Turn, plain-turn, drop-pair}
 use borrow.Author.Needs.{needs}
 use Rattle.curves.proofs.time_to_provide.Statement.{statement}
 use Rattle.curves.proofs.time_to_provide.Tie as tie
@@ -30,16 +31,22 @@ plain-so c = sym (c .before .plain .ensures) ∙ not-false (c .before .plain .re
 turn : (c : tie.Else3 Inv-loop μ-loop) → Turn (c .before .before .before .before .before .before .args .curve .now) (c .before .loop .i)
 turn c = plain-turn _ _ (c .before .loop .inv .0) (c .if3 .left)
 
+refused-requires : tie.Need-refused-requires Inv-loop μ-loop
+refused-requires c κs = search needs
+
 returns : tie.Need-returns Inv-loop μ-loop
-returns c = rw (eq-eqb _ _ (c .if1 .taken))
+returns c = rw (eq-eqb _ _ (c .before .if1 .taken), c .refused .ensures) refl
 
 plain-requires : tie.Need-plain-requires Inv-loop μ-loop
 plain-requires c κs = search needs
 
+refused-requires-2 : tie.Need-refused-requires-2 Inv-loop μ-loop
+refused-requires-2 c κs = search needs
+
 returns-2 : tie.Need-returns-2 Inv-loop μ-loop
 returns-2 c =
-    let p = sym (c .before .plain .ensures) ∙ not-true (c .before .plain .result) (c .if2 .taken) in
-    rw (ne-eqb _ _ (c .before .before .if1 .left), p)
+    let t = c .before .before .plain in
+    rw (ne-eqb _ _ (c .before .before .before .if1 .left), sym (t .ensures) ∙ not-true (t .result) (c .before .if2 .taken), c .refused2 .ensures) refl
 
 loop-holds : tie.Need-loop-holds Inv-loop μ-loop
 loop-holds c =
@@ -64,8 +71,8 @@ shared-slice-read-e c = omega (arith, turn (c .before .before) .pair)
 sub-if4 : tie.Need-sub-if4 Inv-loop μ-loop
 sub-if4 c = omega (arith, turn (c .before .before) .front)
 
-add-t18 : tie.Need-add-t18 Inv-loop μ-loop
-add-t18 c = omega (arith, turn (c .before .before .before) .front)
+add-t20 : tie.Need-add-t20 Inv-loop μ-loop
+add-t20 c = omega (arith, turn (c .before .before .before) .front)
 
 sub-left : tie.Need-sub-left Inv-loop μ-loop
 sub-left c = omega (arith, turn (c .before .before .before) .front)
@@ -101,8 +108,10 @@ time-to-provide-spec =
     (tie.spec
     Inv-loop
     μ-loop
+    refused-requires
     returns
     plain-requires
+    refused-requires-2
     returns-2
     loop-holds
     mul-s
@@ -111,7 +120,7 @@ time-to-provide-spec =
     mul-e
     shared-slice-read-e
     sub-if4
-    add-t18
+    add-t20
     sub-left
     sub-left-2
     add-i

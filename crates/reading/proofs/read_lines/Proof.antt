@@ -6,8 +6,8 @@ use native.Mathlib.Omega.{arith}
 use borrow.Author.Tests.{not-true, not-false}
 use lib.ListN.{length, length-drop}
 use lib.Seq.{length-take-le}
-use Rattle.reading.specs.Pieces.{firstLength}
-use Rattle.reading.proofs.Splits.{first-within, part-rest}
+use Rattle.fields.specs.Pieces.{firstLength}
+use Rattle.fields.proofs.Splits.{first-within, part-rest}
 use Rattle.reading.proofs.Rows.{Underway, underway-start, feed-at, said, underway-wrong, underway-room, underway-more, underway-end}
 use borrow.Author.Needs.{needs}
 use Rattle.reading.proofs.read_lines.Statement.{statement}

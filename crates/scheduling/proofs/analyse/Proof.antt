@@ -1,62 +1,15 @@
--- `scheduling::analyse` meets its contract: 9, then what reading refuses, then the table's answers.
-use mathlib.Core.Path.{_≡_, sym, ap, _∙_}
-use mathlib.Core.Bool.{true}
-use native.Mathlib.Omega.{arith}
+-- `scheduling::analyse` meets its contract: what was worked out is what it answers.
+use mathlib.Core.Path.{_≡_, refl, _∙_}
 use borrow.Author.Needs.{needs}
-use borrow.Author.Tests.{not-true, not-false}
-use Rattle.reading.specs.declared.Answer.the-variants.{Accepted, Refused}
-use Rattle.reading.specs.declared.Reading.{Reading}
-use Rattle.reading.specs.Reading.{numberOf}
-use Rattle.machine.specs.Parts.{Obeyed}
-use Rattle.answers.specs.declared.Analysis.{Analysis}
-use Rattle.scheduling.specs.Buffers.{roomy}
-use Rattle.scheduling.specs.Analysing.{notAnalysed, analysed}
-use Rattle.scheduling.proofs.Calls.{accepted-obeyed, number-some, too-small, told-by, all-enough, all-kept, by-number}
+use Rattle.scheduling.proofs.Answered.{listed-is}
 use Rattle.scheduling.proofs.analyse.Statement.{statement}
 use Rattle.scheduling.proofs.analyse.Tie as tie
 
-hold-all-requires : tie.Need-hold-all-requires
-hold-all-requires c κs = search needs
+work-out-requires : tie.Need-work-out-requires
+work-out-requires c κs = search needs
 
-not-analysed-requires : tie.Need-not-analysed-requires
-not-analysed-requires c κs = search needs
-
-returns : tie.Need-returns
-returns c =
-    let a = c .before .before .before .before .before .before .before .before .before .before .args in
-    let r = c .not-analysed .ensures in
-    let small = sym (c .before .before .hold-all .ensures) ∙ not-true (c .before .before .hold-all .result) (c .before .if1 .taken) in
-    record {
-      answer = r ∙ too-small notAnalysed analysed (a .text .now) _ small;
-      buffers = by-number (ap (λ (w : Analysis). w .number) (sym r)) (all-kept 9 (a .free .now) (a .sum .now) (a .part .now) (a .held .now) (a .running .now) (a .spare .now) (omega arith));
-    }
-
-read-requires : tie.Need-read-requires
-read-requires c κs = search needs
-
-enum-told : tie.Need-enum-told
-enum-told c = search needs
-
--- the buffers have room
-room-so : (c : tie.Else1) → let a = c .before .before .before .before .before .before .before .before .before .args in roomy (a .free .now) (a .sum .now) (a .part .now) (a .held .now) (a .running .now) (a .spare .now) ≡ true
-room-so c = sym (c .before .hold-all .ensures) ∙ not-false (c .before .hold-all .result) (c .if1 .left)
-
--- the table of an accepted text
-obeyed-so : (c : tie.After-enum-told) → Obeyed (c .before .before .before .read .result .table)
-obeyed-so c =
-    let e = c .before .before .before .read .ensures in
-    rw e (accepted-obeyed (c .before .before .before .before .before .before .before .before .before .before .before .before .before .args .text .now) (ap (λ (r : Reading). r .answer) (sym e) ∙ c .enum-told .given .1))
-
-analyse-table-requires : tie.Need-analyse-table-requires
-analyse-table-requires c κs =
-    let p = all-enough _ _ _ _ _ _ (room-so (c .before .before .before .before .before .before .before .before .before .before)) in
-    (obeyed-so (c .before .before .before .before .before .before), p .0, p .1, p .2, p .3, p .4, p .5)
-
-enum-known-answer : tie.Need-enum-known-answer
-enum-known-answer c = search needs
-
-not-read-requires : tie.Need-not-read-requires
-not-read-requires c κs = search needs
+listed-requires : tie.Need-listed-requires
+listed-requires c κs = search needs
 
 same-length : tie.Need-same-length
 same-length c = search needs
@@ -76,47 +29,24 @@ same-length-5 c = search needs
 same-length-6 : tie.Need-same-length-6
 same-length-6 c = search needs
 
-returns-2 : tie.Need-returns-2
-returns-2 c =
-    let a = c .before .before .before .before .before .before .before .before .before .before .before .before .before .before .before .before .before .before .before .before .before .before .before .before .before .before .before .before .before .before .before .before .args in
-    let e = c .before .before .before .before .before .before .before .before .before .before .before .before .before .before .before .before .before .before .before .before .before .before .read .ensures in
-    let w = c .before .before .before .before .before .before .before .before .before .before .before .before .analyse-table .ensures in
+returns : tie.Need-returns
+returns c =
+    let w = c .before .before .before .before .before .before .before .before .before .before .before .before .before .work-out .ensures in
     record {
-      answer =
-          w .0
-          ∙ ap (λ (r : Reading). analysed (r .table)) e
-          ∙ told-by notAnalysed analysed (a .text .now) _ (room-so (c .before .before .before .before .before .before .before .before .before .before .before .before .before .before .before .before .before .before .before .before .before .before .before)) Accepted (ap (λ (r : Reading). r .answer) (sym e) ∙ c .before .before .before .before .before .before .before .before .before .before .before .before .before .before .before .before .before .before .before .enum-told .given .1);
-      buffers = w .1;
-    }
-
-returns-3 : tie.Need-returns-3
-returns-3 c =
-    let a = c .before .before .before .before .before .before .before .before .before .before .before .before .before .before .before .args in
-    let e = c .before .before .before .before .before .read .ensures in
-    let r = c .not-read .ensures in
-    let fault = c .before .before .answer .given .0 .0 in
-    record {
-      answer = r ∙ told-by notAnalysed analysed (a .text .now) _ (room-so (c .before .before .before .before .before .before)) (Refused fault) (ap (λ (r : Reading). r .answer) (sym e) ∙ c .before .before .answer .given .1);
-      buffers = by-number (ap (λ (w : Analysis). w .number) (sym r)) (all-kept (numberOf (fault .what)) (a .free .now) (a .sum .now) (a .part .now) (a .held .now) (a .running .now) (a .spare .now) (number-some (fault .what)));
+      answer = c .listed .ensures ∙ listed-is _ _ _ _ (w .0) refl;
+      buffers = rw (c .listed .ensures) (w .1);
     }
 
 pub analyse-spec : {M : Type 1} → statement M
 analyse-spec =
     tie.close
     (tie.spec
-    hold-all-requires
-    not-analysed-requires
-    returns
-    read-requires
-    enum-told
-    analyse-table-requires
-    enum-known-answer
-    not-read-requires
+    work-out-requires
+    listed-requires
     same-length
     same-length-2
     same-length-3
     same-length-4
     same-length-5
     same-length-6
-    returns-2
-    returns-3)
+    returns)

@@ -4,7 +4,7 @@ use mathlib.Core.Path.{_≡_, refl, sym, _∙_}
 use mathlib.Core.Bool.{true, false, _&&_}
 use lib.Dec.{leb}
 use borrow.Author.Tests.{not-true, not-false, leb-true}
-use Rattle.windows.proofs.Ticks.{and-right}
+use Rattle.basics.proofs.Tests.{and-right}
 use Rattle.table.specs.Rules.{between, inTicks, all, serverObeys, serversOf}
 use borrow.Author.Needs.{needs}
 use Rattle.table.proofs.obeys_rules.Statement.{statement}

@@ -1,17 +1,14 @@
--- `curve_calls::printing::put_lent` meets its contract. The loop's invariant: the place is among the numbers or at their end. Assumes
--- nothing.
-use Prim.Native.Nat.{_-_, _≤_}
-use native.Mathlib.Omega.{arith}
-use lib.ListN.{length}
+-- `curve_calls::printing::put_lent` meets its contract. Assumes nothing.
+use Prim.Native.Nat.{_-_}
 use borrow.Author.Needs.{needs}
 use Rattle.curve_calls.proofs.printing.put_lent.Statement.{statement}
 use Rattle.curve_calls.proofs.printing.put_lent.Tie as tie
 
 abbrev Inv-loop : tie.InvT-loop
-Inv-loop out₀ n lent m₀ i₀ out m i = i ≤ length lent
+Inv-loop out₀ n lent room m₀ i₀ out m i = Unit {0}
 
 abbrev μ-loop : tie.MeasureT-loop
-μ-loop out₀ n lent m₀ i₀ out m i = length lent - i
+μ-loop out₀ n lent room m₀ i₀ out m i = room - i
 
 slice-aggregate-put-word : tie.Need-slice-aggregate-put-word Inv-loop μ-loop
 slice-aggregate-put-word c = search needs
@@ -22,17 +19,14 @@ put-word-requires c κs = search needs
 loop-holds : tie.Need-loop-holds Inv-loop μ-loop
 loop-holds c = search needs
 
-mul-put-number : tie.Need-mul-put-number Inv-loop μ-loop
-mul-put-number c = search needs
+mul-put-value : tie.Need-mul-put-value Inv-loop μ-loop
+mul-put-value c = search needs
 
-shared-slice-read-put-number : tie.Need-shared-slice-read-put-number Inv-loop μ-loop
-shared-slice-read-put-number c = search needs
+element-copy-out-put-value : tie.Need-element-copy-out-put-value Inv-loop μ-loop
+element-copy-out-put-value c = search needs
 
-cast-put-number : tie.Need-cast-put-number Inv-loop μ-loop
-cast-put-number c = omega (arith, c .shared-slice-known2 .given (c .before .before .before .loop .i))
-
-put-number-requires : tie.Need-put-number-requires Inv-loop μ-loop
-put-number-requires c κs = search needs
+put-value-requires : tie.Need-put-value-requires Inv-loop μ-loop
+put-value-requires c κs = search needs
 
 add-i : tie.Need-add-i Inv-loop μ-loop
 add-i c = search needs
@@ -55,10 +49,9 @@ put-lent-spec =
     slice-aggregate-put-word
     put-word-requires
     loop-holds
-    mul-put-number
-    shared-slice-read-put-number
-    cast-put-number
-    put-number-requires
+    mul-put-value
+    element-copy-out-put-value
+    put-value-requires
     add-i
     loop-less
     loop-again

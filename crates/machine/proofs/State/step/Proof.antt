@@ -8,9 +8,9 @@ use borrow.Author.Tests.{not-true, not-false}
 use lib.ListN.{length}
 use Rattle.table.proofs.Entries.{length-mapped}
 use Rattle.machine.specs.declared.State.{State}
-use Rattle.machine.specs.Machine.{refills, releases, ready, runnerOf, runs, spends, accepts, stepOf, noneOf, overWork}
-use Rattle.machine.specs.Parts.{Obeyed}
-use Rattle.machine.proofs.Obeyed.{obeyed-of, span-most}
+use Rattle.machine.specs.Machine.{refills, releases, ready, runnerOf, runs, spends, accepts, stepOf, overWork}
+use Rattle.table.specs.Places.{noneOf, Obeyed}
+use Rattle.table.proofs.Obeyed.{obeyed-of, span-most}
 use Rattle.machine.proofs.Stepping.{accepted-rules, accepted-tick, accepted-work, holder-most, holder-has, first-runs, runner-most, runner-has, step-taken}
 use Rattle.machine.proofs.State.step.Statement.{statement}
 use Rattle.machine.proofs.State.step.Tie as tie
@@ -89,11 +89,16 @@ add-next c =
     let early = accepted-tick _ _ (so (c .before .before .before .before .before .before .before .before)) in
     search (needs, tick-so (c .before), early, span-most _ (ok (c .before .before .before .before .before .before .before .before)))
 
+no-refusal-requires : tie.Need-no-refusal-requires
+no-refusal-requires c κs = search needs
+
 returns-2 : tie.Need-returns-2
-returns-2 c =
+returns-2 d =
+    let c = d .before in
     let r = c .before .before .before .before .before .before in
-    step-taken (c .before .before .before .before .before .before .before .before .before .before .args .table) (c .before .before .before .before .before .before .before .before .before .before .args .self) (c .before .run .result) (r .release .result) (c .before .before .before .before .first-server .result) (c .before .before .before .first-task .result)
-    (so (c .before .before .before .before .before .before .before .before)) (ready-so r) (c .before .before .before .before .first-server .ensures) (runner-so (c .before .before .before)) (ran-so (c .before))
+    rw (d .no-refusal .ensures)
+    (step-taken (c .before .before .before .before .before .before .before .before .before .before .args .table) (c .before .before .before .before .before .before .before .before .before .before .args .self) (c .before .run .result) (r .release .result) (c .before .before .before .before .first-server .result) (c .before .before .before .first-task .result)
+    (so (c .before .before .before .before .before .before .before .before)) (ready-so r) (c .before .before .before .before .first-server .ensures) (runner-so (c .before .before .before)) (ran-so (c .before)))
 
 pub step-spec : {M : Type 1} → statement M
 step-spec =
@@ -110,4 +115,5 @@ step-spec =
     spend-requires
     run-requires
     add-next
+    no-refusal-requires
     returns-2)

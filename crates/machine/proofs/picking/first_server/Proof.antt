@@ -11,8 +11,8 @@ use Rattle.table.specs.declared.Table.{Table}
 use Rattle.machine.specs.declared.State.{State}
 use Rattle.machine.specs.Machine.{mayHold, qualifies}
 use Rattle.machine.specs.Parts.{Firsts}
-use Rattle.machine.proofs.Places.{Walk, walk-starts, walk-goes-on, walk-finds, walk-ends}
-use Rattle.machine.proofs.Obeyed.{servers-most}
+use Rattle.table.proofs.Places.{Walk, walk-starts, walk-goes-on, walk-finds, walk-ends}
+use Rattle.table.proofs.Obeyed.{servers-most}
 use Rattle.machine.proofs.picking.first_server.Statement.{statement}
 use Rattle.machine.proofs.picking.first_server.Tie as tie
 

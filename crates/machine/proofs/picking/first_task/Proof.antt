@@ -1,7 +1,7 @@
 -- `machine::picking::first_task` meets its contract.
 use mathlib.Core.Path.{sym}
 use borrow.Author.Needs.{needs}
-use Rattle.machine.proofs.Places.{entry-is}
+use Rattle.machine.proofs.Beside.{entry-is}
 use Rattle.machine.proofs.picking.first_task.Statement.{statement}
 use Rattle.machine.proofs.picking.first_task.Tie as tie
 

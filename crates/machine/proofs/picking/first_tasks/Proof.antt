@@ -8,8 +8,9 @@ use lib.ListN.{length, getD, set, replicate, getD-replicate, length-set}
 use Rattle.table.specs.Rules.{noTask}
 use Rattle.table.specs.declared.Table.{Table}
 use Rattle.machine.specs.declared.State.{State}
-use Rattle.machine.specs.Parts.{Obeyed, noted}
-use Rattle.machine.proofs.Obeyed.{servers-most, tasks-most, task-server}
+use Rattle.table.specs.Places.{Obeyed}
+use Rattle.machine.specs.Parts.{noted}
+use Rattle.table.proofs.Obeyed.{servers-most, tasks-most, task-server}
 use Rattle.machine.proofs.Noting.{NotedFrom, noted-none, noted-all, noted-turn}
 use Rattle.machine.proofs.picking.first_tasks.Statement.{statement}
 use Rattle.machine.proofs.picking.first_tasks.Tie as tie

@@ -7,9 +7,9 @@ use borrow.Author.Needs.{needs}
 use lib.ListN.{length, take}
 use Rattle.table.specs.Rules.{noServer}
 use Rattle.machine.specs.Machine.{along, refilled}
-use Rattle.machine.proofs.Places.{along-stores}
+use Rattle.machine.proofs.Beside.{along-stores}
 use Rattle.machine.proofs.States.{state-is}
-use Rattle.machine.proofs.Obeyed.{servers-most, server-period}
+use Rattle.table.proofs.Obeyed.{servers-most, server-period}
 use Rattle.machine.proofs.refilling.refill.Statement.{statement}
 use Rattle.machine.proofs.refilling.refill.Tie as tie
 

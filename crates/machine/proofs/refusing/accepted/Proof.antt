@@ -7,8 +7,9 @@ use lib.Dec.{ltb}
 use borrow.Author.Needs.{needs}
 use borrow.Author.Tests.{not-true, not-false, lt-ltb, le-ltb}
 use Rattle.table.specs.Rules.{obeys}
-use Rattle.machine.specs.Machine.{accepts, noneOf, overBudget}
-use Rattle.machine.proofs.Obeyed.{servers-few, tasks-few}
+use Rattle.machine.specs.Machine.{accepts, overBudget}
+use Rattle.table.specs.Places.{noneOf}
+use Rattle.table.proofs.Obeyed.{servers-few, tasks-few}
 use Rattle.machine.proofs.refusing.accepted.Statement.{statement}
 use Rattle.machine.proofs.refusing.accepted.Tie as tie
 

@@ -7,7 +7,7 @@ use borrow.Author.Tests.{lt-ltb, le-ltb}
 use lib.ListN.{length}
 use Rattle.table.proofs.Entries.{length-mapped}
 use Rattle.machine.specs.Machine.{overBudget}
-use Rattle.machine.proofs.Places.{Walk, walk-starts, walk-goes-on, walk-some, walk-none}
+use Rattle.table.proofs.Places.{Walk, walk-starts, walk-goes-on, walk-some, walk-none}
 use Rattle.machine.proofs.refusing.budgets_within.Statement.{statement}
 use Rattle.machine.proofs.refusing.budgets_within.Tie as tie
 

@@ -6,7 +6,7 @@ use borrow.Author.Needs.{needs}
 use borrow.Author.Tests.{lt-ltb, le-ltb}
 use lib.ListN.{getD}
 use Rattle.machine.specs.Machine.{overWork}
-use Rattle.machine.proofs.Places.{Walk, walk-starts, walk-goes-on, walk-some, walk-none}
+use Rattle.table.proofs.Places.{Walk, walk-starts, walk-goes-on, walk-some, walk-none}
 use Rattle.machine.proofs.refusing.work_within.Statement.{statement}
 use Rattle.machine.proofs.refusing.work_within.Tie as tie
 

@@ -6,7 +6,7 @@ use native.Mathlib.Omega.{arith}
 use lib.Dec.{leb}
 use borrow.Author.Needs.{needs}
 use borrow.Author.Tests.{lt-leb, le-leb, leb-true}
-use Rattle.windows.proofs.Ticks.{and-left, and-right}
+use Rattle.basics.proofs.Tests.{and-left, and-right}
 use Rattle.table.specs.Rules.{releaseObeys, inTicks}
 use Rattle.table.specs.declared.Release.{Release}
 use Rattle.table.specs.declared.Release.the-variants.{Every}

@@ -9,11 +9,14 @@ use borrow.Author.Tests.{ltb-false}
 use lib.ListN.{length, getD, take}
 use Rattle.table.specs.Rules.{noTask}
 use Rattle.table.specs.declared.Task.{Task}
-use Rattle.machine.specs.Machine.{along, gained, gains, noneOf, overWork}
+use Rattle.machine.specs.Machine.{along, gained, overWork}
+use Rattle.table.specs.Releases.{gains}
+use Rattle.table.specs.Places.{noneOf}
 use Rattle.machine.specs.declared.State.{State}
-use Rattle.machine.proofs.Places.{along-stores, along-next, none-at}
+use Rattle.machine.proofs.Beside.{along-stores, along-next}
+use Rattle.table.proofs.Places.{none-at}
 use Rattle.machine.proofs.States.{state-is}
-use Rattle.machine.proofs.Obeyed.{tasks-most, task-release, task-work, gains-most}
+use Rattle.table.proofs.Obeyed.{tasks-most, task-release, task-work, gains-most}
 use Rattle.machine.proofs.releasing.release.Statement.{statement}
 use Rattle.machine.proofs.releasing.release.Tie as tie
 

@@ -5,7 +5,7 @@ use mathlib.Core.List.{List}
 use native.Mathlib.Omega.{arith}
 use borrow.Author.Needs.{needs}
 use Rattle.machine.specs.declared.State.{State}
-use Rattle.machine.proofs.Places.{less-none, less-is}
+use Rattle.machine.proofs.Beside.{less-none, less-is}
 use Rattle.machine.proofs.running.spend.Statement.{statement}
 use Rattle.machine.proofs.running.spend.Tie as tie
 

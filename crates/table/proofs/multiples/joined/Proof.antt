@@ -4,7 +4,7 @@ use mathlib.Core.Bool.{true, false}
 use Prim.Native.Nat.{_≤_, _<_}
 use borrow.Author.Needs.{needs}
 use borrow.Author.Tests.{not-true, not-false, leb-true}
-use Rattle.windows.proofs.Ticks.{and-left, and-right}
+use Rattle.basics.proofs.Tests.{and-left, and-right}
 use lib.Dec.{leb}
 use Rattle.table.specs.Rules.{inTicks}
 use Rattle.table.proofs.Spans.{joins-over, joins-outside, joins-lcm, joins-large}

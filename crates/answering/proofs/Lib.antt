@@ -1,0 +1,4 @@
+pub mod Noting
+pub mod FreeCurves
+pub mod Answering
+pub mod Marked

@@ -1,0 +1,3 @@
+pub mod Fronts
+pub mod Fills
+pub mod Puts

@@ -1,0 +1,5 @@
+pub mod Releases
+pub mod Openings
+pub mod Cutoffs
+pub mod Additions
+pub mod Sums

@@ -1,0 +1,35 @@
+-- `handing::answered::hand_analysis` meets its contract: where there is no refusal, the answers are handed out.
+use mathlib.Core.Path.{_≡_, refl}
+use borrow.Author.Needs.{needs}
+use Rattle.table.proofs.Entries.{length-mapped}
+use Rattle.handing.proofs.Given.{given-old}
+use Rattle.handing.proofs.answered.hand_analysis.Statement.{statement}
+use Rattle.handing.proofs.answered.hand_analysis.Tie as tie
+
+returns : tie.Need-returns
+returns c =
+    let old = c .if1 .taken in (
+      refl,
+      refl,
+      given-old _ _ _ old,
+      given-old _ _ _ old,
+      given-old _ _ _ old,
+      given-old _ _ _ old,
+      given-old _ _ _ old,
+      given-old _ _ _ old,
+      given-old _ _ _ old,
+      given-old _ _ _ old,
+      given-old _ _ _ old,
+    )
+
+list-servers-requires : tie.Need-list-servers-requires
+list-servers-requires c κs = search (needs, length-mapped)
+
+list-tasks-requires : tie.Need-list-tasks-requires
+list-tasks-requires c κs = search (needs, length-mapped)
+
+returns-2 : tie.Need-returns-2
+returns-2 c = search needs
+
+pub hand-analysis-spec : {M : Type 1} → statement M
+hand-analysis-spec = tie.close (tie.spec returns list-servers-requires list-tasks-requires returns-2)

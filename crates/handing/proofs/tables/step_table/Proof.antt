@@ -1,0 +1,34 @@
+-- `exports::tables::step_table` meets its contract: a step that is not refused is written back field by field.
+use mathlib.Core.Path.{sym, ap, _∙_}
+use borrow.Author.Needs.{needs}
+use Rattle.machine.specs.declared.Stepped.{Stepped}
+use Rattle.handing.proofs.Given.{given-old, refused-stays}
+use Rattle.handing.proofs.tables.step_table.Statement.{statement}
+use Rattle.handing.proofs.tables.step_table.Tie as tie
+
+step-requires : tie.Need-step-requires
+step-requires c κs = search needs
+
+returns : tie.Need-returns
+returns c =
+    let e = c .before .before .before .step .ensures in
+    let number = ap (λ (s : Stepped). s .refusal .number) e in (
+      number,
+      ap (λ (s : Stepped). s .refusal .line) e,
+      refused-stays _ _ (λ z. c .if1 .taken (number ∙ z)),
+      given-old _ _ _ (c .if1 .taken),
+      given-old _ _ _ (c .if1 .taken),
+    )
+
+returns-2 : tie.Need-returns-2
+returns-2 c =
+    let e = c .before .before .before .before .before .before .step .ensures in (
+      sym (c .before .before .before .if1 .left) ∙ ap (λ (s : Stepped). s .refusal .number) e,
+      ap (λ (s : Stepped). s .refusal .line) e,
+      ap (λ (s : Stepped). s .next) e,
+      ap (λ (s : Stepped). s .holder) e,
+      ap (λ (s : Stepped). s .runner) e,
+    )
+
+pub step-table-spec : {M : Type 1} → statement M
+step-table-spec = tie.close (tie.spec step-requires returns returns-2)

@@ -1,0 +1,74 @@
+// What the calls on a table hand out.
+use machine::State;
+use refusals::Refusal;
+use table::Table;
+ghost use mathlib.Core.Path.{_≡_};
+ghost use Rattle.machine.specs.Machine.{stepOf};
+ghost use Rattle.handing.specs.Handing.{given};
+
+// Hands out the line of a refusal, and answers its number.
+pub fn hand_refusal(refusal: Refusal, line: &mut u32) -> u32
+    ensures { λ r. ⌜ (r ≡ refusal .number) × (now (line .exit) ≡ refusal .line) ⌝ }
+{
+    *line = refusal.line;
+    refusal.number
+}
+
+// Hands out what is read of an accepted text.
+pub fn hand_table(
+    table: Table,
+    line: &mut u32,
+    span: &mut u32,
+    servers_n: &mut usize,
+    tasks_n: &mut usize,
+) -> u32
+    ensures { λ r. ⌜ (r ≡ 0) × (now (line .exit) ≡ 0) × (now (span .exit) ≡ table .span) × (now («servers_n» .exit) ≡ table .«servers_n»)
+        × (now («tasks_n» .exit) ≡ table .«tasks_n») ⌝ }
+{
+    *line = 0;
+    *span = table.span;
+    *servers_n = table.servers_n;
+    *tasks_n = table.tasks_n;
+    0
+}
+
+// Goes one tick on with a table's machine.
+pub fn step_table(
+    table: Table,
+    tick: &mut u32,
+    budgets: &mut [u32; 16],
+    waiting: &mut [u32; 64],
+    line: &mut u32,
+    holder: &mut u32,
+    runner: &mut u32,
+) -> u32
+    ensures { λ r. ⌜ (r ≡ stepOf table (record { tick = now (tick .entry); budgets = now (budgets .entry); waiting = now (waiting .entry) }) .refusal .number)
+        × (now (line .exit) ≡ stepOf table (record { tick = now (tick .entry); budgets = now (budgets .entry); waiting = now (waiting .entry) }) .refusal .line)
+        × (_≡_ {A = State} (record { tick = now (tick .exit); budgets = now (budgets .exit); waiting = now (waiting .exit) })
+        (stepOf table (record { tick = now (tick .entry); budgets = now (budgets .entry); waiting = now (waiting .entry) }) .next))
+        × (now (holder .exit) ≡ given r (stepOf table (record { tick = now (tick .entry); budgets = now (budgets .entry); waiting = now (waiting .entry) }) .holder) (now (holder .entry)))
+        × (now (runner .exit) ≡ given r (stepOf table (record { tick = now (tick .entry); budgets = now (budgets .entry); waiting = now (waiting .entry) }) .runner) (now (runner .entry))) ⌝ }
+{
+    let old_budgets = *budgets;
+    let old_waiting = *waiting;
+    let state = State {
+        tick: *tick,
+        budgets: old_budgets,
+        waiting: old_waiting,
+    };
+    let stepped = state.step(table);
+    let refusal = stepped.refusal;
+    *line = refusal.line;
+    if refusal.number != 0 {
+        return refusal.number;
+    }
+    let next = stepped.next;
+    *tick = next.tick;
+    let new_budgets = next.budgets;
+    let new_waiting = next.waiting;
+    *budgets = new_budgets;
+    *waiting = new_waiting;
+    *holder = stepped.holder;
+    *runner = stepped.runner;
+    0
+}

@@ -1,0 +1,54 @@
+-- `holding::served` meets its contract.
+use Rattle.holding.proofs.CutPieces.{served-part, served-whole}
+use borrow.Author.Needs.{needs}
+use Rattle.holding.proofs.served.Statement.{statement}
+use Rattle.holding.proofs.served.Tie as tie
+
+add-end : tie.Need-add-end
+add-end c = search needs
+
+mul-end : tie.Need-mul-end
+mul-end c = search needs
+
+shared-slice-read-end : tie.Need-shared-slice-read-end
+shared-slice-read-end c = search needs
+
+sub-n : tie.Need-sub-n
+sub-n c = search needs
+
+add-wanted : tie.Need-add-wanted
+add-wanted c = search needs
+
+sub-budget : tie.Need-sub-budget
+sub-budget c = search needs
+
+returns : tie.Need-returns
+returns c = served-part (c .before .before .before .before .before .before .pre) (c .if1 .taken)
+
+add-number-at : tie.Need-add-number-at
+add-number-at c = search needs
+
+number-at-requires : tie.Need-number-at-requires
+number-at-requires c κs = search needs
+
+add-t12 : tie.Need-add-t12
+add-t12 c = search needs
+
+returns-2 : tie.Need-returns-2
+returns-2 c = rw (c .number-at .ensures) (served-whole (c .before .before .before .before .before .before .before .pre) (c .before .if1 .left))
+
+pub served-spec : {M : Type 1} → statement M
+served-spec =
+    tie.close
+    (tie.spec
+    add-end
+    mul-end
+    shared-slice-read-end
+    sub-n
+    add-wanted
+    sub-budget
+    returns
+    add-number-at
+    number-at-requires
+    add-t12
+    returns-2)

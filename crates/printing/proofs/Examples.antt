@@ -1,0 +1,8 @@
+-- Those lines, computed.
+use mathlib.Core.Path.{refl}
+use Rattle.putting.specs.Decimal.{digits}
+use Rattle.printing.specs.Examples.{Checked}
+
+pub checked : Checked
+unfolding digits
+checked = record { refused = refl; unfinished = refl; none = refl }

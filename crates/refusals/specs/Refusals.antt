@@ -1,0 +1,48 @@
+-- Document 01, 'Numbers given on refusal': every ground, and its number.
+use Prim.Native.Nat.{ℕ}
+use Rattle.refusals.specs.declared.Ground.{Ground}
+use Rattle.refusals.specs.declared.Ground.the-variants as ground
+use Rattle.refusals.specs.declared.Refusal.{Refusal}
+
+abbrev pub numberOf : Ground → ℕ
+-- 1 "text over 4,096 bytes"; 2 "text empty or last byte not a line feed"
+numberOf ground.TextTooLong = 1
+numberOf ground.NotEnded = 2
+-- 3 "first field unknown or in the wrong place ..; no server; no task"
+numberOf ground.Misplaced = 3
+numberOf ground.Missing = 3
+-- 4 "wrong count of fields"
+numberOf ground.FieldCount = 4
+-- 5 "a field is no number, or `-` not allowed, or server kind unknown"
+numberOf ground.Empty = 5
+numberOf ground.Dash = 5
+numberOf ground.NoDigit = 5
+numberOf ground.LeadingZero = 5
+numberOf ground.TooManyDigits = 5
+numberOf ground.UnknownKind = 5
+-- 6 "number outside its range"; 7 "a 17th server or 65th task"
+numberOf ground.OutOfRange = 6
+numberOf ground.TooMany = 7
+-- 8 "`span` is `-` and the multiple is above 16,000"
+numberOf ground.MultipleOver = 8
+-- 9 "one of the six lent work buffers holds fewer than 16,000 numbers"
+numberOf ground.WorkRoom = 9
+-- 10 "lent curve of odd length or not plain"; 11 "result needs more room than lent, or ends above 1,000,000"; 12 "an argument is zero"
+numberOf ground.NotPlain = 10
+numberOf ground.NoRoom = 11
+numberOf ground.ArgumentZero = 12
+-- 13 "step: table breaks the rules above, or tick is H or more, or a budget above its C, or waiting work above 300,000,000; curves: tick
+-- asked is H or more"
+numberOf ground.OutOfStep = 13
+
+-- "With each goes a line number, counted from 1, and 0 except for 3 to 7"; the place is the field's, the line's first word being 1, or 0
+abbrev pub refusedAt : Ground → ℕ → ℕ → Refusal
+refusedAt g line place = record { number = numberOf g; line = line; place = place }
+
+-- "0 except for 3 to 7"
+abbrev pub refusedFor : Ground → Refusal
+refusedFor g = refusedAt g 0 0
+
+-- where nothing is refused
+abbrev pub noRefusal : Refusal
+noRefusal = record { number = 0; line = 0; place = 0 }
