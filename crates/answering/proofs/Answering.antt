@@ -1,10 +1,10 @@
 -- The notes of a server's tasks, and then those of all servers, one by one. Assumes nothing.
 use Prim.Native.Nat.{ℕ, suc, _+_, _-_, _≤_, _<_}
-use mathlib.Core.Path.{_≡_, refl, sym, ap, _∙_}
+use mathlib.Core.Path.{_≡_, refl, ap, _∙_}
 use mathlib.Core.List.{List}
 use mathlib.Core.Bool.{Bool, true, false, _&&_}
 use native.Mathlib.Omega.{arith}
-use lib.ListN.{length, take, set, replicate, length-set, length-replicate}
+use lib.ListN.{length, take, set, length-set, length-replicate}
 use lib.Dec.{ltb}
 use borrow.Author.Tests.{lt-ltb, le-ltb, ltb-true}
 use Rattle.windows.specs.Windows.{cover, fit}
@@ -12,7 +12,7 @@ use Rattle.table.specs.declared.Table.{Table}
 use Rattle.table.specs.Places.{serverAt, taskAt, Obeyed}
 use Rattle.table.proofs.Obeyed.{servers-most, tasks-most, task-server}
 use Rattle.schedule.specs.Curves.{releasesFrom, demandOf, heldOf}
-use Rattle.answers.specs.Answers.{none, judged, verdictOf, responseOf, taskAnswer, noTaskAnswer, answerOn, serverAnswer, noServerAnswer, serverAnswers, taskAnswers}
+use Rattle.answers.specs.Answers.{none, judged, verdictOf, responseOf, taskAnswer, noTaskAnswer, answerOn, serverAnswer, noServerAnswer}
 use Rattle.answers.specs.declared.Response.{Response}
 use Rattle.answers.specs.declared.TaskAnswer.{TaskAnswer}
 use Rattle.answers.specs.declared.ServerAnswer.{ServerAnswer}
@@ -20,7 +20,7 @@ use Rattle.buffers.specs.Parts.{Wrote}
 use Rattle.answering.specs.declared.ServerNotes.{ServerNotes}
 use Rattle.answering.specs.declared.TaskNotes.{TaskNotes}
 use Rattle.answering.specs.Noted.{ofBelow, holdsAt, runsAt, NoNotes, TasksNoted, ServersNoted, AllNoted}
-use Rattle.serving.proofs.LeftTicks.{Left, left-all, left-other, left-served, left-next}
+use Rattle.serving.proofs.LeftTicks.{Left, left-other, left-served, left-next}
 use Rattle.answering.proofs.FreeCurves.{Freed}
 use Rattle.answering.proofs.Noting.{noted-none, noted-same, noted-more, noted-all, below-next, reached, reached-none, reached-apart, reached-other, reached-own, reached-all}
 

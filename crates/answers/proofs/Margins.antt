@@ -4,8 +4,7 @@ use mathlib.Core.Path.{_≡_}
 use mathlib.Core.Bool.{Bool, true, false, cond}
 use native.Mathlib.Omega.{arith}
 use lib.Dec.{ltb}
-use lib.IntN.{ℤ, pos, negsuc, natAbs, _-ℤ_}
-use borrow.Author.Tests.{ltb-true, ltb-false}
+use lib.IntN.{pos, negsuc, natAbs, _-ℤ_}
 use Rattle.table.specs.declared.Table.{Table}
 use Rattle.table.specs.Places.{taskAt, Obeyed}
 use Rattle.table.proofs.Obeyed.{span-most, task-deadline}

@@ -1,13 +1,13 @@
 -- What the answers of tasks and servers say of the machine's run. Assumes nothing.
-use Prim.Native.Nat.{ℕ, zero, suc, _+_, _≤_, _<_}
-use mathlib.Core.Path.{_≡_, refl, sym, ap, _∙_}
+use Prim.Native.Nat.{ℕ, zero, suc, _≤_, _<_}
+use mathlib.Core.Path.{_≡_, refl}
 use mathlib.Core.Bool.{Bool, true, false}
 use native.Mathlib.Omega.{arith}
 use lib.Dec.{ltb}
 use borrow.Author.Tests.{ltb-true, ltb-false}
 use Rattle.table.specs.declared.Table.{Table}
 use Rattle.table.specs.Places.{serverAt, taskAt, firstOf, Obeyed}
-use Rattle.table.proofs.Places.{First, first-is, first-not}
+use Rattle.table.proofs.Places.{first-is, first-not}
 use Rattle.answers.specs.Answers.{Verdict, worst, unfinished, none, responseOf, verdictOf, taskAnswer, fullPeriods, freeIn, firstShort, shortOf, serverAnswer}
 use Rattle.answers.specs.Jobs.{TaskSays, unheldIn, ShortSays, ServerSays}
 use Rattle.answers.proofs.Responses.{worst-is, unfinished-is, none-is}

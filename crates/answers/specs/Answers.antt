@@ -1,8 +1,7 @@
 -- Document 01, 'Servers, one tick at a time' and 'What the report program prints': worst response, unfinished or none of a task, full and short
 -- periods of a server.
-use Prim.Native.Nat.{ℕ, zero, suc, _+_, _-_, _*_, _/_}
+use Prim.Native.Nat.{ℕ, zero, suc, _-_, _*_, _/_}
 use mathlib.Core.List.{List, [], _∷_}
-use mathlib.Core.Bool.{Bool}
 use lib.Dec.{ltb}
 use lib.IntN.{ℤ, pos, _-ℤ_}
 use Rattle.basics.specs.Choice.{pick}

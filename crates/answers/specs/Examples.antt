@@ -1,5 +1,4 @@
 -- Document 01, the reports of tables A, B and C (the printed report and examples 11 and 12), and margins at zero and at both ends.
-use Prim.Native.Nat.{ℕ}
 use mathlib.Core.Path.{_≡_}
 use lib.IntN.{pos, negsuc}
 use Rattle.machine.specs.Examples.{tableA, tableB, tableC}

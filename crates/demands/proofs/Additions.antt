@@ -10,7 +10,7 @@ use borrow.Author.Tests.{le-leb}
 use Rattle.windows.specs.Windows.{isPlain, cover, endOf, addUp, done, always, _⊕_}
 use Rattle.windows.proofs.Ticks.{plain-apart, apart-plain, end-below}
 use Rattle.windows.proofs.Runs.{runs-end}
-use Rattle.windows.proofs.Adding.{add-apart, add-plain}
+use Rattle.windows.proofs.Adding.{add-plain}
 use Rattle.refusals.specs.Outcomes.{front}
 use Rattle.walks.specs.Rooms.{fitsIn}
 use Rattle.table.specs.declared.Task.{Task}

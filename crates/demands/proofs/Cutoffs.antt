@@ -1,14 +1,14 @@
 -- A curve whose windows all start before H, cut off there; and that adding up two curves below H gives such a one. Assumes nothing.
-use Prim.Native.Nat.{ℕ, zero, suc, _+_, _-_, _≤_, _<_, min}
-use mathlib.Core.Path.{_≡_, refl, sym, ap, ap₂, _∙_}
+use Prim.Native.Nat.{ℕ, zero, suc, _-_, _≤_, _<_, min}
+use mathlib.Core.Path.{_≡_, refl, sym, ap, _∙_}
 use mathlib.Core.List.{List, [], _∷_}
-use mathlib.Core.Bool.{Bool, true, false}
+use mathlib.Core.Bool.{true}
 use native.Mathlib.Omega.{arith}
 use native.Mathlib.Decide.{decLt}
 use lib.ListN.{length, getD, set, take, length-set}
 use lib.Seq.{length-take-le, getD-take, take-set-lt}
-use Rattle.windows.specs.Windows.{isPlain, inside, window, cover, addUp, waiting, done, always, _⊕_}
-use Rattle.windows.proofs.Ticks.{inside-yes, inside-late, Apart, apart-lower, cover-before, window-some, plain-apart}
+use Rattle.windows.specs.Windows.{isPlain, cover, addUp, waiting, done, always, _⊕_}
+use Rattle.windows.proofs.Ticks.{inside-yes, inside-late, Apart, cover-before, window-some, plain-apart}
 use Rattle.windows.proofs.Adding.{add-ticks, add-apart}
 use Rattle.schedule.specs.Curves.{below}
 use Rattle.buffers.specs.Parts.{Wrote}

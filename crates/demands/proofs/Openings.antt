@@ -8,7 +8,7 @@ use native.Mathlib.Decide.{decLe, decLt}
 use lib.ListN.{length, take}
 use Rattle.basics.specs.Choice.{pick}
 use Rattle.windows.specs.Windows.{inside, cover, plainFrom, _⊕_}
-use Rattle.windows.proofs.Ticks.{inside-yes, inside-early, inside-late, inside-one, inside-none, Apart, cover-one, plain-apart, apart-same}
+use Rattle.windows.proofs.Ticks.{inside-early, inside-late, inside-one, inside-none, Apart, cover-one, plain-apart, apart-same}
 use Rattle.windows.proofs.Queue.{none, smooth, smooth-absorbed, smooth-units, done-quiet}
 use Rattle.windows.proofs.Adding.{open-longer}
 use Rattle.table.specs.declared.Release.{Release}

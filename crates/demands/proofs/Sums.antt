@@ -1,8 +1,7 @@
 -- The summed demand of a server, task by task. Assumes nothing.
-use Prim.Native.Nat.{ℕ, zero, suc, _+_, _-_, _≤_, _<_}
-use mathlib.Core.Path.{_≡_, refl, sym, ap, ap₂, _∙_}
-use mathlib.Core.List.{List, []}
-use mathlib.Core.Bool.{Bool, true, false}
+use Prim.Native.Nat.{ℕ, suc, _+_, _-_, _≤_, _<_}
+use mathlib.Core.Path.{_≡_, refl, sym, ap, _∙_}
+use mathlib.Core.List.{List}
 use native.Mathlib.Omega.{arith}
 use native.Mathlib.Numerals.{add-one}
 use lib.ListN.{length, take}
@@ -12,7 +11,7 @@ use Rattle.windows.specs.Windows.{addUp}
 use Rattle.table.specs.declared.Table.{Table}
 use Rattle.table.specs.Places.{taskAt, Obeyed}
 use Rattle.table.proofs.Obeyed.{span-most, task-some, task-work, task-release}
-use Rattle.schedule.specs.Curves.{belongs, below, demandOf, summedBelow}
+use Rattle.schedule.specs.Curves.{below, demandOf, summedBelow}
 use Rattle.schedule.proofs.Demands.{summed-inside}
 use Rattle.buffers.specs.Parts.{PlainBelow, Curve, Wrote}
 use Rattle.demands.specs.Walks.{TaskObeyed}

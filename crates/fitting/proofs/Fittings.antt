@@ -1,8 +1,8 @@
 -- The three results of a fitting counted, and written, a piece at a time. Assumes nothing.
 use Prim.Native.Nat.{ℕ, _+_, _-_, _≤_, _<_}
-use mathlib.Core.Path.{_≡_, refl, sym, ap, _∙_}
-use mathlib.Core.List.{List, [], _∷_}
-use mathlib.Core.Bool.{Bool, true, false, _&&_, and-true, and-false}
+use mathlib.Core.Path.{_≡_, refl, ap}
+use mathlib.Core.List.{List, []}
+use mathlib.Core.Bool.{true, false, _&&_, and-true, and-false}
 use native.Mathlib.Omega.{arith}
 use native.Mathlib.Nat.{le-refl}
 use lib.ListN.{length, take, drop, set, length-drop}
@@ -15,11 +15,9 @@ use Rattle.basics.proofs.Tests.{and-left, and-right}
 use Rattle.windows.proofs.Ticks.{plain-end}
 use Rattle.windows.proofs.Fitting.{fit-left-plain, fit-served-plain, fit-rest-plain}
 use Rattle.windows.proofs.Stretching.{raise-none}
-use Rattle.refusals.specs.Outcomes.{front}
-use Rattle.fitting.specs.Steps.{fitsAll, fitAhead, InFit, Goes, fitRooms, FitWrites}
+use Rattle.fitting.specs.Steps.{fitsAll, fitAhead, InFit, Goes, fitRooms}
 use Rattle.fitting.specs.declared.Place.{Place}
-use Rattle.fitting.specs.declared.Counts.{Counts}
-use Rattle.walks.proofs.Buffers.{Counted, counted-none, counted-pair, counted-over, counted-all, Written, written-none, written-room, written-pair, written-all}
+use Rattle.walks.proofs.Buffers.{Counted, counted-none, counted-pair, counted-over, counted-all, Written, written-none, written-room, written-pair}
 
 -- what is handed on of a slice
 pub part-rest : (xs : List ℕ) (k : ℕ) → take (length xs - k) (drop k xs) ≡ drop k xs

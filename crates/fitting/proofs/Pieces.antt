@@ -1,17 +1,16 @@
 -- The pieces of a fitting, one at a time. Assumes nothing.
-use Prim.Native.Nat.{ℕ, suc, _+_, _-_, _≤_, _<_, max}
-use mathlib.Core.Path.{_≡_, refl, sym, ap, ap₂, _∙_}
+use Prim.Native.Nat.{ℕ, _+_, _-_, _≤_, _<_, max}
+use mathlib.Core.Path.{_≡_, refl, _∙_}
 use mathlib.Core.List.{List, [], _∷_}
 use mathlib.Core.Bool.{true}
 use native.Mathlib.Omega.{arith}
-use native.Mathlib.Decide.{decLt}
 use lib.ListN.{length, getD, drop}
-use Rattle.windows.specs.Windows.{isPlain, plainFrom, window, Fit, passed, fit}
+use Rattle.windows.specs.Windows.{isPlain, plainFrom, passed}
 use Rattle.windows.specs.Walks.{raise, servedFirst, restFirst}
 use Rattle.windows.proofs.Ticks.{plain-apart, window-some, window-none}
 use Rattle.windows.proofs.Fitting.{fit-no-demand, fit-passed}
 use Rattle.windows.proofs.Stretching.{fit-unwanted, fit-unserved, fit-side, raise-none}
-use Rattle.fitting.specs.Steps.{demandAhead, supplyAhead, fitAhead, InFit, Goes, Stretches}
+use Rattle.fitting.specs.Steps.{fitAhead, InFit, Goes, Stretches}
 use Rattle.fitting.specs.declared.Place.{Place}
 use Rattle.fitting.specs.declared.Stretch.{Stretch}
 use Rattle.fitting.proofs.Stretches.{Ahead, ahead-at, ahead-none, ahead-raised, plain-raised}

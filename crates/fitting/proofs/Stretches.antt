@@ -7,13 +7,12 @@ use native.Mathlib.Numerals.{add-one}
 use native.Mathlib.Omega.{arith}
 use native.Mathlib.Decide.{decLe, decLt}
 use lib.ListN.{length, getD, drop, drop-of-length-le}
-use Rattle.windows.specs.Windows.{isPlain, plainFrom, window, Fit, fit}
-use Rattle.windows.specs.Walks.{raise, servedFirst, openFirst}
-use Rattle.windows.proofs.Ticks.{Apart, Front, plain-front, plain-lower, plain-apart, apart-plain, front-plain, not-odd, window-some, window-none}
+use Rattle.windows.specs.Windows.{isPlain, plainFrom, window, fit}
+use Rattle.windows.specs.Walks.{raise, openFirst}
+use Rattle.windows.proofs.Ticks.{Apart, Front, plain-front, plain-lower, plain-apart, front-plain, not-odd, window-some, window-none}
 use Rattle.windows.proofs.Stretching.{open-none, stretch-whole, stretch-over, stretch-none, stretch-stop, later-demand, later-supply, raise-none}
 use Rattle.fitting.specs.Steps.{InStretch, Stretches}
 use Rattle.fitting.specs.declared.Place.{Place}
-use Rattle.fitting.specs.declared.Stretch.{Stretch}
 use Rattle.windows.proofs.Turns.{drop-pair, drop-odd}
 
 pub apart-behind : (e : ℕ) (l : List ℕ) → plainFrom (e + 1) l ≡ true → Apart (suc e) l

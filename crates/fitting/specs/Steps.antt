@@ -5,8 +5,8 @@ use mathlib.Core.List.{List, [], _∷_}
 use mathlib.Core.Bool.{Bool, true, _&&_}
 use lib.ListN.{length, getD, drop}
 use lib.Dec.{leb}
-use Rattle.windows.specs.Windows.{isPlain, plainFrom, endOf, window, Fit, passed, fit}
-use Rattle.windows.specs.Walks.{merge, grown, cutFrom, raise, servedFirst, restFirst}
+use Rattle.windows.specs.Windows.{isPlain, plainFrom, window, Fit, passed, fit}
+use Rattle.windows.specs.Walks.{raise, servedFirst, restFirst}
 use Rattle.fitting.specs.declared.Place.{Place}
 use Rattle.fitting.specs.declared.Stretch.{Stretch}
 use Rattle.fitting.specs.declared.Counts.{Counts}

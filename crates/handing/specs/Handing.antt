@@ -8,7 +8,6 @@ use lib.IntN.{ℤ, pos}
 use Rattle.basics.specs.Choice.{pick}
 use Rattle.windows.specs.Windows.{Instant, at, notProvided}
 use Rattle.refusals.specs.Outcomes.{Outcome, refused, answer}
-use Rattle.curves.specs.Refusals.{Lengths}
 use Rattle.table.specs.declared.Table.{Table}
 use Rattle.reading.specs.Reading.{readingOf}
 use Rattle.reading.specs.declared.Answer.{Answer}

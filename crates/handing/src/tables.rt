@@ -57,10 +57,10 @@ pub fn step_table(
         waiting: old_waiting,
     };
     let stepped = state.step(table);
-    let refusal = stepped.refusal;
-    *line = refusal.line;
-    if refusal.number != 0 {
-        return refusal.number;
+    let refused = stepped.refusal;
+    *line = refused.line;
+    if refused.number != 0 {
+        return refused.number;
     }
     let next = stepped.next;
     *tick = next.tick;

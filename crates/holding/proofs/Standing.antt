@@ -6,7 +6,7 @@ use mathlib.Core.List.{List}
 use mathlib.Core.Bool.{true}
 use native.Mathlib.Omega.{arith}
 use native.Mathlib.Numerals.{add-two}
-use native.Mathlib.Nat.{zero-mod, mod-lt}
+use native.Mathlib.Nat.{zero-mod, mod-lt, mod-eq-of-lt, mod-add-mod}
 use native.Mathlib.Decide.{decLe, decLt}
 use lib.ListN.{length, getD}
 use borrow.Author.Tests.{le-leb, lt-leb}
@@ -102,6 +102,19 @@ wants-comes {demand} {h} {d} {wanted} {at} {stop} p w k c l t m n =
   where
     sums : (ha xw xv xt t : ℕ) → xw ≡ ha → xv + wanted ≡ xw + (wanted + (t - at)) → xv ≤ xt → at ≤ t → ha + t ≤ at + xt
     sums ha xw xv xt t a b c d = omega arith
+
+-- ---- a tick in the period that follows the one that ended at `until`
+
+pub mod-since : (T until at : ℕ) → until % T ≡ 0 → until ≤ at → at < until + T → at % T ≡ at - until
+mod-since T until at e h k =
+    let n = at - until in
+    let same : at ≡ until + n = omega arith in
+    let small : n % T ≡ n = mod-eq-of-lt (omega arith) in
+    let sum : (until % T + n) % T ≡ at % T = mod-add-mod until T n ∙ ap (λ (x : ℕ). x % T) (sym same) in
+    sym sum ∙ ap (λ (x : ℕ). (x + n) % T) e ∙ ap (λ (x : ℕ). x % T) none ∙ small
+  where
+    none : 0 + (at - until) ≡ at - until
+    none = omega arith
 
 -- ---- the period under way ends at `until` and has `budget` left; if it is over, nothing was held since
 

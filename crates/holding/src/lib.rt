@@ -3,7 +3,7 @@ use basics::larger;
 use basics::smaller;
 use buffers::put;
 ghost use mathlib.Core.Path.{_≡_};
-ghost use Prim.Native.Nat.{_+_, _≤_, _<_, min, max};
+ghost use Prim.Native.Nat.{_+_, _-_, _%_, _≤_, _<_};
 ghost use lib.ListN.{length, getD};
 ghost use Rattle.buffers.specs.Parts.{PlainBelow, Drawn};
 ghost use Rattle.holding.specs.Pieces.{taken, untaken, firstPlace, windowBehind, Entered, Offered, Takes, Cuts, Served, Passed};
@@ -54,15 +54,27 @@ fn start(demand: &[u32]) -> Place
     }
 }
 
+// The end of the period that a tick lies in, where an earlier one ended at `until`: the next one, or one further on.
+fn period_end(at: u32, until: u32, period: u32) -> u32
+    requires { ⌜ (0 < period) × (period ≤ 16000) × (at ≤ 16000) × (until ≤ at) × (until % period ≡ 0) ⌝ }
+    ensures { λ r. ⌜ r ≡ (at - at % period) + period ⌝ }
+{
+    let next = until + period;
+    if at < next {
+        return next;
+    }
+    at - at % period + period
+}
+
 // The walk goes on at a free tick, with a new budget if a new period is under way.
 fn entered(place: Place, at: u32, capacity: u32, period: u32) -> Place
-    requires { ⌜ (0 < period) × (period ≤ 16000) × (at ≤ 16000) ⌝ }
+    requires { ⌜ (0 < period) × (period ≤ 16000) × (at ≤ 16000) × (place .until % period ≡ 0) ⌝ }
     ensures { λ r. ⌜ Entered capacity period place at r ⌝ }
 {
     let demand = place.demand;
     let wanted = place.wanted;
     if place.until <= at {
-        let until = at - at % period + period;
+        let until = period_end(at, place.until, period);
         return Place {
             demand,
             wanted,

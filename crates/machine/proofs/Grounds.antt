@@ -1,19 +1,18 @@
 -- A step is refused on one of its four grounds, and on no other; and what it answers is one outcome. Assumes nothing.
 use Prim.Native.Nat.{ℕ, zero, suc, _≤_, _<_}
-use mathlib.Core.Path.{_≡_, refl, sym, ap, _∙_}
+use mathlib.Core.Path.{_≡_, refl, sym, _∙_}
 use mathlib.Core.Bool.{Bool, true, false, true≢false, _&&_}
 use native.Mathlib.Omega.{arith}
 use lib.ListN.{getD}
 use lib.Dec.{ltb}
-use borrow.Author.Tests.{lt-ltb, le-ltb, ltb-true, ltb-false}
-use Rattle.basics.specs.Choice.{pick}
+use borrow.Author.Tests.{lt-ltb, ltb-true, ltb-false}
 use Rattle.table.specs.Rules.{obeys}
 use Rattle.table.specs.declared.Table.{Table}
 use Rattle.machine.specs.declared.State.{State}
 use Rattle.machine.specs.declared.Stepped.{Stepped}
 use Rattle.table.specs.Places.{serverAt, firstOf, noneOf}
 use Rattle.machine.specs.Machine.{overBudget, overWork, accepts, taken, refusal, stepOf}
-use Rattle.table.proofs.Places.{First, first-is, none-at}
+use Rattle.table.proofs.Places.{first-is, none-at}
 use Rattle.machine.proofs.Stepping.{accepted-rules, accepted-tick, accepted-budgets, accepted-work}
 
 -- 13: "table breaks the rules above, or tick is H or more, or a budget above its C, or waiting work above 300,000,000"

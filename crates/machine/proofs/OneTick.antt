@@ -7,19 +7,19 @@ use native.Mathlib.Omega.{arith}
 use lib.ListN.{length, getD, take}
 use lib.Seq.{getD-take, length-take-le, getD-set-other}
 use lib.Dec.{ltb, eqb}
-use borrow.Author.Tests.{ltb-true, ltb-false, le-ltb, eqb-true}
+use borrow.Author.Tests.{ltb-true, eqb-true}
 use Rattle.basics.specs.Choice.{pick}
 use Rattle.basics.proofs.Tests.{and-left, and-right}
-use Rattle.table.specs.Rules.{noServer, noTask, serversOf, tasksOf, obeys}
+use Rattle.table.specs.Rules.{noServer, noTask, serversOf, tasksOf}
 use Rattle.table.specs.declared.Kind.{Kind}
 use Rattle.table.specs.declared.Kind.the-variants.{Deferrable}
 use Rattle.table.specs.declared.Server.{Server}
 use Rattle.table.specs.declared.Table.{Table}
 use Rattle.machine.specs.declared.State.{State}
-use Rattle.table.specs.Places.{serverAt, taskAt, noneOf, Obeyed}
-use Rattle.machine.specs.Machine.{along, refilled, gained, waits, firstTask, isPeriodic, qualifies, holderOf, runnerOf, oneLess, ready, holder, runner, next, overBudget, accepts}
+use Rattle.table.specs.Places.{serverAt, taskAt, Obeyed}
+use Rattle.machine.specs.Machine.{along, refilled, gained, waits, firstTask, isPeriodic, qualifies, holderOf, runnerOf, oneLess, ready, holder, runner, next}
 use Rattle.table.specs.Releases.{gains}
-use Rattle.table.proofs.Places.{First, first-is, none-at, none-of}
+use Rattle.table.proofs.Places.{First, first-is}
 use Rattle.machine.proofs.Beside.{along-length, along-at, along-beyond, less-length, less-at}
 
 -- a state that has an entry for each server and task of the table

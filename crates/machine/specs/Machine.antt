@@ -3,15 +3,13 @@ use Prim.Native.Nat.{ℕ, zero, suc, _+_, _-_, _%_}
 use mathlib.Core.List.{List, [], _∷_}
 use mathlib.Core.Bool.{Bool, true, false, _&&_, _||_}
 use lib.ListN.{getD, set}
-use lib.Dec.{ltb, leb, eqb}
+use lib.Dec.{ltb, eqb}
 use Rattle.table.specs.Places.{serverAt, taskAt, firstOf, noneOf}
 use Rattle.table.specs.Releases.{gains}
 use Rattle.basics.specs.Choice.{pick}
-use Rattle.table.specs.Rules.{noServer, noTask, serversOf, tasksOf, obeys}
+use Rattle.table.specs.Rules.{serversOf, tasksOf, obeys}
 use Rattle.table.specs.declared.Kind.{Kind}
 use Rattle.table.specs.declared.Kind.the-variants.{Deferrable, Periodic}
-use Rattle.table.specs.declared.Release.{Release}
-use Rattle.table.specs.declared.Release.the-variants.{Once, Every}
 use Rattle.table.specs.declared.Server.{Server}
 use Rattle.table.specs.declared.Task.{Task}
 use Rattle.table.specs.declared.Table.{Table}

@@ -1,7 +1,7 @@
 // (3) and (4) What the holder and the runner lose.
 use crate::State;
 ghost use mathlib.Core.Path.{_≡_};
-ghost use Prim.Native.Nat.{_≤_, _<_};
+ghost use Prim.Native.Nat.{_≤_};
 ghost use Rattle.machine.specs.Machine.{spends, runs};
 ghost use Rattle.machine.specs.Parts.{Has};
 

@@ -7,7 +7,7 @@ use refusals::Refusal;
 use refusals::no_refusal;
 use table::Table;
 ghost use mathlib.Core.Path.{_≡_};
-ghost use mathlib.Core.Bool.{Bool, _&&_};
+ghost use mathlib.Core.Bool.{_&&_};
 ghost use Rattle.opening.specs.Opening.{enough, readWith, refusalAt, openedOf};
 
 // The least that a work buffer holds.

@@ -36,30 +36,30 @@ noneWord = 110 ∷ 111 ∷ 110 ∷ 101 ∷ []
 -- ---- lines
 
 -- "Refused: `refused`, number, line"
-abbrev pub refusedLine : Refusal → List ℕ
+unfoldable pub refusedLine : Refusal → List ℕ
 refusedLine refusal = refusedWord ++ (field (refusal .number) ++ (field (refusal .line) ++ feed))
 
 -- "Otherwise `span` and H"
-abbrev pub spanLine : ℕ → List ℕ
+unfoldable pub spanLine : ℕ → List ℕ
 spanLine H = spanWord ++ (field H ++ feed)
 
 -- "the first short one (from 0) or `-`"
-abbrev pub shortField : Short → List ℕ
+unfoldable pub shortField : Short → List ℕ
 shortField (First k) = field k
 shortField Never = 9 ∷ dash
 
 -- "for each server `server`, number, count of full periods, the first short one (from 0) or `-`"
-abbrev pub serverLine : ℕ → ServerAnswer → List ℕ
+unfoldable pub serverLine : ℕ → ServerAnswer → List ℕ
 serverLine number answer = serverWord ++ (field number ++ (field (answer .full) ++ (shortField (answer .short) ++ feed)))
 
 -- "`worst`, response, release of the first job that attains it, margin", "`unfinished`, release of the first job not ended at H", "`none`"
-abbrev pub responseFields : Response → List ℕ
+unfoldable pub responseFields : Response → List ℕ
 responseFields (Worst w) = (9 ∷ worstWord) ++ (field (w .response) ++ (field (w .release) ++ signed (w .margin)))
 responseFields (Unfinished release) = (9 ∷ unfinishedWord) ++ field release
 responseFields None = 9 ∷ noneWord
 
 -- "for each task, by number, .. `task`, number, .."
-abbrev pub taskLine : ℕ → TaskAnswer → List ℕ
+unfoldable pub taskLine : ℕ → TaskAnswer → List ℕ
 taskLine number answer = taskWord ++ (field number ++ (responseFields (answer .response) ++ feed))
 
 -- the k lines from place i on; a number is one more than its place
@@ -75,7 +75,7 @@ taskLines answers k i = listed taskLine noTaskAnswer answers k i
 
 -- ---- the report
 
-abbrev pub reportOf : Analysis → List ℕ
+unfoldable pub reportOf : Analysis → List ℕ
 reportOf a =
     pick (eqb (a .refusal .number) 0)
     (spanLine (a .span) ++ (serverLines (a .servers) (a .«servers_n») 0 ++ taskLines (a .tasks) (a .«tasks_n») 0))

@@ -1,6 +1,6 @@
 -- The curves of a table tick by tick, without an end: the queues that stand between the curves and the machine. Nothing has to be believed
 -- of them.
-use Prim.Native.Nat.{ℕ, zero, suc, _+_, _-_}
+use Prim.Native.Nat.{ℕ, zero, suc, _-_}
 use Rattle.basics.specs.Choice.{pick}
 use Rattle.windows.specs.Windows.{done, always, _⊕_}
 use Rattle.windows.specs.Servers.{held}

@@ -1,15 +1,13 @@
 -- What was worked out is what the two calls answer. Assumes nothing.
-use Prim.Native.Nat.{ℕ, _≤_, _<_}
-use mathlib.Core.Path.{_≡_, refl, sym, ap, _∙_}
+use Prim.Native.Nat.{ℕ, _≤_}
+use mathlib.Core.Path.{_≡_, refl, ap, _∙_}
 use mathlib.Core.List.{List}
-use mathlib.Core.Bool.{Bool, true, false}
+use mathlib.Core.Bool.{Bool}
 use native.Mathlib.Omega.{arith}
 use borrow.Author.Tests.{lt-leb}
-use Rattle.table.specs.declared.Table.{Table}
 use Rattle.reading.specs.Reading.{readingOf}
 use Rattle.answering.specs.Noted.{holdsAt, runsAt}
 use Rattle.answering.proofs.Marked.{marked-first, unmarked-first}
-use Rattle.opening.specs.Opening.{openedOf}
 use Rattle.scheduling.specs.declared.Worked.{Worked}
 use Rattle.scheduling.specs.Working.{Works, toldBy, listedBy}
 use Rattle.scheduling.specs.Asking.{whoOf}

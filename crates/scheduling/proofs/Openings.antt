@@ -8,8 +8,6 @@ use native.Mathlib.Omega.{arith}
 use lib.Dec.{leb}
 use borrow.Author.Tests.{leb-true, leb-false}
 use Rattle.refusals.specs.Refusals.{noRefusal}
-use Rattle.refusals.specs.declared.Refusal.{Refusal}
-use Rattle.table.specs.declared.Table.{Table}
 use Rattle.table.proofs.Obeyed.{servers-most, tasks-most, span-some}
 use Rattle.reading.specs.Reading.{noTable, readingOf}
 use Rattle.reading.specs.declared.Answer.{Answer}

@@ -11,7 +11,7 @@ use Rattle.machine.specs.Run.{holderAt, runnerAt}
 use Rattle.schedule.proofs.Agreement.{holder-agrees, runner-agrees}
 use Rattle.answers.specs.declared.Analysis.{Analysis}
 use Rattle.scheduling.specs.declared.Who.{Who}
-use Rattle.scheduling.specs.Buffers.{afterwards, Buffers}
+use Rattle.scheduling.specs.Buffers.{Buffers}
 use Rattle.scheduling.specs.Asking.{whoOf, Asks}
 use Rattle.scheduling.specs.Analysing.{Analyses}
 use Rattle.scheduling.proofs.Calls.{accepted-obeyed, by-number}

@@ -1,13 +1,12 @@
 -- What a server would hold, and what it holds and leaves of a free curve. Assumes nothing.
-use Prim.Native.Nat.{ℕ, zero, suc, _+_, _-_, _≤_, _<_}
-use mathlib.Core.Path.{_≡_, refl, sym, ap, ap₂, _∙_}
+use Prim.Native.Nat.{ℕ, _-_, _≤_, _<_}
+use mathlib.Core.Path.{_≡_, refl, sym, ap, _∙_}
 use mathlib.Core.List.{List, []}
 use mathlib.Core.Bool.{true}
 use native.Mathlib.Omega.{arith}
 use native.Mathlib.Decide.{decLt}
 use lib.ListN.{length, take}
-use Rattle.windows.specs.Windows.{inside, window, cover, plainFrom, isPlain, windowsOf, always}
-use Rattle.windows.specs.Servers.{held}
+use Rattle.windows.specs.Windows.{window, cover, plainFrom, isPlain, windowsOf, always}
 use Rattle.windows.proofs.Ticks.{inside-yes, inside-late, plain-apart, plain-same, cover-one, window-cover, window-apart}
 use Rattle.table.specs.declared.Kind.{Kind}
 use Rattle.table.specs.declared.Kind.the-variants.{Deferrable, Periodic}

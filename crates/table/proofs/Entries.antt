@@ -1,17 +1,15 @@
 -- The entries of a table within its count, one at a time. Assumes nothing.
-use Prim.Native.Nat.{ℕ, suc, _+_, _≤_, _<_}
+use Prim.Native.Nat.{ℕ, suc, _+_, _≤_, _<_, min}
 use mathlib.Core.Path.{_≡_, refl, sym, ap, _∙_}
 use mathlib.Core.List.{List, [], _∷_, map}
 use mathlib.Core.Bool.{Bool, true, false, _&&_}
 use native.Mathlib.Numerals.{add-one}
 use native.Mathlib.Omega.{arith}
+use native.Mathlib.Decide.{decLt}
 use lib.ListN.{length, getD, take, drop, drop-of-length-le, length-map}
-use lib.Dec.{ltb}
-use borrow.Author.Tests.{ltb-true, ltb-false}
 use lib.Seq.{drop-cons, getD-take, length-take-le, take-all}
 use Rattle.basics.proofs.Tests.{and-left, and-right}
 use Rattle.table.specs.Rules.{all}
-use Rattle.table.specs.Multiples.{Stored}
 
 module _ {A : Type 0} (xs : List A) (n : ℕ) (h : n ≤ length xs) where
   pub entry-next : (d : A) (i : ℕ) → i < n → drop i (take n xs) ≡ getD xs i d ∷ drop (i + 1) (take n xs)
@@ -51,19 +49,9 @@ length-mapped f xs n e = sym (length-map xs f) ∙ e
 
 -- ---- the entries that are stored are the entries within the count
 
-module _ {count room n : ℕ} (s : Stored count room n) where
-  pub stored-room : n ≤ room
-  stored-room = go (ltb count room) refl
-    where
-      go : (b : Bool) → ltb count room ≡ b → n ≤ room
-      go true h = let k : count < room = ltb-true count room h in omega (arith, s .few k)
-      go false h = omega (arith, s .full (ltb-false count room h))
-
-  pub stored-take : {A : Type 0} (xs : List A) → length xs ≡ room → take n xs ≡ take count xs
-  stored-take {A} xs e = go (ltb count room) refl
-    where
-      go : (b : Bool) → ltb count room ≡ b → take n xs ≡ take count xs
-      go true h = rw (s .few (ltb-true count room h))
-      go false h =
-          let k : room ≤ count = ltb-false count room h in
-          take-all n xs (omega (arith, s .full k)) ∙ sym (take-all count xs (omega arith))
+pub stored-take : {A : Type 0} {n room : ℕ} (count : ℕ) (xs : List A) → n ≡ min count room → length xs ≡ room → take n xs ≡ take count xs
+stored-take {n = n} {room = room} count xs s e = go (decLt count room)
+  where
+    go : Dec (count < room) → take n xs ≡ take count xs
+    go (yes h) = let k : n ≡ count = omega arith in rw k
+    go (no h) = take-all n xs (omega arith) ∙ sym (take-all count xs (omega arith))

@@ -2,20 +2,20 @@
 use Prim.Native.Nat.{ℕ, zero, suc, _+_, _%_, _≤_, _<_, _∣_}
 use mathlib.Core.Path.{_≡_, refl, sym, ap, _∙_}
 use mathlib.Core.List.{List, [], _∷_, _++_, append-assoc, append-nil}
-use mathlib.Core.Bool.{Bool, true, false, true≢false, _&&_}
+use mathlib.Core.Bool.{Bool, true, false, true≢false}
 use native.Mathlib.Omega.{arith}
 use native.Mathlib.Nat.{dvd-refl, dvd-trans, le-of-dvd, pos-of-dvd-of-pos, mod-eq-zero-of-dvd, dvd-of-mod-eq-zero}
 use native.Mathlib.Decide.{ℕ-discrete}
 use lib.ListN.{length, getD, take, drop}
-use lib.Dec.{eqb, leb}
-use borrow.Author.Tests.{eqb-true, leb-true, le-leb}
+use lib.Dec.{eqb}
+use borrow.Author.Tests.{eqb-true, le-leb}
 use Rattle.basics.specs.Choice.{pick}
 use Rattle.basics.proofs.Tests.{and-left, and-right}
-use Rattle.table.specs.Rules.{all, between, inTicks, serverObeys, releaseObeys, taskObeys, noServer, noTask}
+use Rattle.table.specs.Rules.{all, inTicks, noServer, noTask}
 use Rattle.table.specs.Euclid.{IsLcm}
 use Rattle.table.specs.Span.{isMultiple, firstMultiple, spanOf, serverPeriods, everyPeriod, taskPeriods}
 use Rattle.table.proofs.Entries.{entry-next}
-use Rattle.table.specs.Multiples.{Divide, Leads, Spans, InSpan, JoinsAll}
+use Rattle.table.specs.Multiples.{Divide, Spans, InSpan, JoinsAll}
 use Rattle.table.specs.declared.Server.{Server}
 use Rattle.table.specs.declared.Task.{Task}
 use Rattle.table.specs.declared.Release.{Release}

@@ -30,8 +30,3 @@ InSpan Over = Unit {0}
 pub record JoinsAll (span : Span) (periods : List ℕ) (r : Span) : Type 0 where
   pub bounded : InSpan r
   pub leads : (whole ahead : List ℕ) → Spans whole (periods ++ ahead) span → Spans whole ahead r
-
--- as many entries as are counted, but no more than there are places
-pub record Stored (count room n : ℕ) : Type 0 where
-  pub few : count < room → n ≡ count
-  pub full : room ≤ count → n ≡ room

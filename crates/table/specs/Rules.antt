@@ -1,7 +1,7 @@
 -- Document 01, 'The table text': the rules of a table.
 use Prim.Native.Nat.{ℕ}
 use mathlib.Core.List.{List, [], _∷_}
-use mathlib.Core.Bool.{Bool, true, false, _&&_}
+use mathlib.Core.Bool.{Bool, true, _&&_}
 use lib.ListN.{take}
 use lib.Dec.{leb}
 use Rattle.table.specs.declared.Server.{Server}

@@ -1,7 +1,7 @@
 -- Document 01, 'The table text': "`-` in `span` means the least common multiple of all server periods and all `every` periods".
 use Prim.Native.Nat.{ℕ, zero, suc, _%_}
 use mathlib.Core.List.{List, [], _∷_, _++_}
-use mathlib.Core.Bool.{Bool, true, false}
+use mathlib.Core.Bool.{Bool}
 use lib.Dec.{eqb}
 use Rattle.basics.specs.Choice.{pick}
 use Rattle.table.specs.Rules.{all}

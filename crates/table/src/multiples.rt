@@ -4,21 +4,12 @@ use crate::Span;
 use crate::Table;
 use crate::euclid::lcm;
 use crate::ranges::in_ticks;
+use basics::stored;
 ghost use mathlib.Core.Path.{_≡_};
 ghost use mathlib.Core.List.{[], _∷_};
 ghost use Rattle.table.specs.Rules.{serversOf, tasksOf};
 ghost use Rattle.table.specs.Span.{serverPeriods, everyPeriod, taskPeriods, periodsOf, spanOf};
-ghost use Rattle.table.specs.Multiples.{Stored, InSpan, JoinsAll};
-
-// How many of `count` entries an array of `room` places holds.
-fn stored(count: usize, room: usize) -> usize
-    ensures { λ r. ⌜ Stored count room r ⌝ }
-{
-    if count < room {
-        return count;
-    }
-    room
-}
+ghost use Rattle.table.specs.Multiples.{InSpan, JoinsAll};
 
 // The least common multiple of a span and a period, or that it is above 16,000.
 fn joined(span: Span, period: u32) -> Span

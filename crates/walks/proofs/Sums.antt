@@ -1,18 +1,18 @@
 -- The sum of two curves, a window at a time. Assumes nothing.
 use Prim.Native.Nat.{ℕ, suc, _+_, _-_, _≤_, _<_}
-use mathlib.Core.Path.{_≡_, refl, sym, ap, _∙_}
+use mathlib.Core.Path.{_≡_, refl, sym, _∙_}
 use mathlib.Core.List.{List, [], _∷_}
 use mathlib.Core.Bool.{Bool, true, false}
 use native.Mathlib.Omega.{arith}
 use lib.ListN.{length, getD, drop, drop-of-length-le}
 use lib.Dec.{leb}
-use borrow.Author.Tests.{leb-false, le-leb, lt-leb}
+use borrow.Author.Tests.{le-leb, lt-leb}
 use Rattle.basics.specs.Choice.{pick}
-use Rattle.windows.specs.Windows.{endOf, plainFrom, isPlain}
+use Rattle.windows.specs.Windows.{endOf, isPlain}
 use Rattle.windows.specs.Walks.{place, merge, grow, grown}
 use Rattle.windows.proofs.Ticks.{Apart, apart-lower, plain-apart}
 use Rattle.windows.proofs.Adding.{Sorted, sorted-lower, sorted-apart, sorted-merge, grow-over}
-use Rattle.walks.specs.Steps.{InBoth, Takes, Sums, mergeAhead, sumAhead}
+use Rattle.walks.specs.Steps.{InBoth, Takes, mergeAhead, sumAhead}
 use Rattle.walks.specs.declared.adding.Both.{Both}
 use Rattle.windows.proofs.Turns.{Turn, plain-turn, drop-pair}
 

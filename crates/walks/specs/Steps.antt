@@ -1,12 +1,11 @@
 -- What the walks of the private functions have before them and must give: cited by their contracts, and by no public one.
-use Prim.Native.Nat.{ℕ, _+_, _≤_, _<_, max}
+use Prim.Native.Nat.{ℕ, _+_, _≤_, _<_}
 use mathlib.Core.Path.{_≡_}
 use mathlib.Core.List.{List, [], _∷_}
-use mathlib.Core.Bool.{Bool, true, _&&_}
+use mathlib.Core.Bool.{true}
 use lib.ListN.{length, getD, drop}
-use lib.Dec.{leb}
-use Rattle.windows.specs.Windows.{isPlain, plainFrom, endOf, window, Fit, passed, fit}
-use Rattle.windows.specs.Walks.{merge, grown, cutFrom, raise, servedFirst, restFirst}
+use Rattle.windows.specs.Windows.{isPlain, endOf}
+use Rattle.windows.specs.Walks.{merge, grown, cutFrom}
 use Rattle.walks.specs.declared.cutting.Cut.{Cut}
 use Rattle.walks.specs.declared.cutting.Piece.{Piece}
 use Rattle.walks.specs.declared.cutting.Piece.the-variants as piece

@@ -1,5 +1,8 @@
 // Counting ticks.
 
+// The most ticks that a span has.
+pub const TICKS: usize = 16_000;
+
 // More than any instant or count that a span of ticks can give.
 pub const NEVER: u32 = 1_000_000;
 

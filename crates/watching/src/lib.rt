@@ -7,6 +7,7 @@ mod tasks;
 use answers::Analysis;
 use basics::stored;
 use batch::put_word;
+use counting::TICKS;
 use printing::put_report;
 use reading::Answer;
 use refusals::Refusal;
@@ -17,13 +18,13 @@ use tasks::task_answers;
 ghost use Prim.Native.Nat.{_≤_};
 
 // Steps the machine from tick 0 on, and notes each tick's holder and runner, 0 for none. Answers the refusal of the last step, or the one
-// given where there is no tick.
+// given where there is no tick: once a step is refused, all that follow are.
 fn watch(
     table: Table,
     ticks: usize,
     refusal: Refusal,
-    holders: &mut [u32; 16000],
-    runners: &mut [u32; 16000],
+    holders: &mut [u32; TICKS],
+    runners: &mut [u32; TICKS],
 ) -> Refusal
     requires { ⌜ ticks ≤ 16000 ⌝ }
 {
@@ -44,12 +45,12 @@ fn watch(
 }
 
 // The answers of a table, or a refusal. A refused text has an empty table, with no tick to step.
-fn analysis_of(table: Table, refused: Refusal) -> Analysis
+fn answers_of(table: Table, refused: Refusal) -> Analysis
     ensures { λ r. ⌜ (r .«servers_n» ≤ 16) × (r .«tasks_n» ≤ 64) ⌝ }
 {
-    let mut holders = [0u32; 16000];
-    let mut runners = [0u32; 16000];
-    let ticks = stored(table.span as usize, 16000);
+    let mut holders = [0u32; TICKS];
+    let mut runners = [0u32; TICKS];
+    let ticks = stored(table.span as usize, TICKS);
     let refusal = watch(table, ticks, refused, &mut holders, &mut runners);
     let servers_n = stored(table.servers_n, 16);
     let tasks_n = stored(table.tasks_n, 64);
@@ -65,14 +66,6 @@ fn analysis_of(table: Table, refused: Refusal) -> Analysis
     }
 }
 
-// Why a text is refused, if it is.
-fn refusal_of(answer: Answer) -> Refusal {
-    match answer {
-        Answer::Accepted => no_refusal(),
-        Answer::Refused(refusal) => refusal,
-    }
-}
-
 // The answers of a text's table, or the refusal of the text.
 fn analysed(text: &[u8]) -> Analysis
     ensures { λ r. ⌜ (r .«servers_n» ≤ 16) × (r .«tasks_n» ≤ 64) ⌝ }
@@ -80,11 +73,16 @@ fn analysed(text: &[u8]) -> Analysis
     let read = reading::read(text);
     let answer = read.answer;
     let table = read.table;
-    analysis_of(table, refusal_of(answer))
+    let refusal = match answer {
+        Answer::Accepted => no_refusal(),
+        Answer::Refused(refusal) => refusal,
+    };
+    answers_of(table, refusal)
 }
 
 // Puts the report of a text's table, or why the text is refused.
 pub fn put_answer(out: &mut [u8; 65536], n: usize, text: &[u8]) -> usize {
+    // a report has at most so many bytes
     let mut page = [0u8; 4240];
     let count = put_report(&mut page, analysed(text));
     put_word(out, n, &page[..count])

@@ -1,4 +1,5 @@
 // What is counted of the servers: the free ticks of each full period.
+use crate::counting::TICKS;
 use crate::counting::plus;
 use answers::ServerAnswer;
 use answers::Short;
@@ -14,7 +15,7 @@ fn no_answer() -> ServerAnswer {
     }
 }
 
-// How many ticks were free with one more: a tick is, if no server above the one with the number holds it.
+// The free ticks of a period with one tick more: it is free if no server above the one with the number holds it.
 fn with_tick(free: u32, number: u32, holder: u32) -> u32 {
     if holder != 0 {
         if holder < number {
@@ -32,28 +33,24 @@ fn ends_with(period: u32, finish: u32) -> bool {
     finish % period == 0
 }
 
-// The first short period, once one is over that had so many free ticks.
-fn with_short(first: Short, period: u32, free: u32, capacity: u32) -> Short {
-    match first {
-        Short::First(_) => first,
-        Short::Never => if free < capacity {
-            Short::First(period)
-        } else {
-            first
-        },
-    }
-}
-
-// A server's answer, once one more full period is over.
+// A server's answer, once one more full period is over that had so many free ticks.
 fn after_period(answer: ServerAnswer, free: u32, capacity: u32) -> ServerAnswer {
     let first = answer.short;
-    let short = with_short(first, answer.full, free, capacity);
     let full = plus(answer.full, 1);
-    ServerAnswer { full, short }
+    let Short::Never = first else {
+        return ServerAnswer { full, short: first };
+    };
+    if free < capacity {
+        return ServerAnswer {
+            full,
+            short: Short::First(answer.full),
+        };
+    }
+    ServerAnswer { full, short: first }
 }
 
 // A server's answer, from who holds each tick.
-fn server_answer(server: Server, number: u32, ticks: usize, holders: &[u32; 16000]) -> ServerAnswer
+fn server_answer(server: Server, number: u32, ticks: usize, holders: &[u32; TICKS]) -> ServerAnswer
     requires { ⌜ ticks ≤ 16000 ⌝ }
 {
     let mut answer = no_answer();
@@ -75,7 +72,7 @@ pub fn server_answers(
     table: Table,
     count: usize,
     ticks: usize,
-    holders: &[u32; 16000],
+    holders: &[u32; TICKS],
 ) -> [ServerAnswer; 16]
     requires { ⌜ (count ≤ 16) × (ticks ≤ 16000) ⌝ }
 {

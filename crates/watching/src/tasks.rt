@@ -1,5 +1,6 @@
 // What is counted of the tasks: their jobs end in order of release, each when it has run for its work.
 use crate::counting::NEVER;
+use crate::counting::TICKS;
 use crate::counting::plus;
 use answers::Response;
 use answers::TaskAnswer;
@@ -49,30 +50,24 @@ fn margin(deadline: u32, response: u32) -> i32 {
     (deadline as i32) - (response as i32)
 }
 
-// A job that ends.
-fn ended_job(release: u32, finish: u32, deadline: u32) -> WorstJob {
+// The worst of the jobs that have ended, with one more: the first of two that are equal stays.
+fn with_job(ended: Response, release: u32, finish: u32, deadline: u32) -> Response {
     let response = if finish < release {
         0
     } else {
         finish - release
     };
+    if let Response::Worst(worst) = ended {
+        if response <= worst.response {
+            return ended;
+        }
+    }
     let margin = margin(deadline, response);
-    WorstJob {
+    Response::Worst(WorstJob {
         response,
         release,
         margin,
-    }
-}
-
-// The worst of the jobs that have ended, once one more has: the first of two that are equal stays.
-fn worst_of(ended: Response, job: WorstJob) -> Response {
-    let Response::Worst(worst) = ended else {
-        return Response::Worst(job);
-    };
-    if worst.response < job.response {
-        return Response::Worst(job);
-    }
-    ended
+    })
 }
 
 // A task's jobs, once it has run for a tick.
@@ -87,7 +82,7 @@ fn one_after_run(jobs: Jobs, task: Task, finish: u32) -> Jobs {
         };
     }
     let releases = task.release;
-    let ended = worst_of(before, ended_job(jobs.release, finish, task.deadline));
+    let ended = with_job(before, jobs.release, finish, task.deadline);
     let release = next_release(releases, jobs.release);
     Jobs {
         release,
@@ -109,7 +104,7 @@ fn said_of(jobs: Jobs, ticks: usize) -> TaskAnswer {
 }
 
 // A task's answer, from who runs in each tick.
-fn task_answer(task: Task, number: u32, ticks: usize, runners: &[u32; 16000]) -> TaskAnswer
+fn task_answer(task: Task, number: u32, ticks: usize, runners: &[u32; TICKS]) -> TaskAnswer
     requires { ⌜ ticks ≤ 16000 ⌝ }
 {
     let releases = task.release;
@@ -130,7 +125,7 @@ pub fn task_answers(
     table: Table,
     count: usize,
     ticks: usize,
-    runners: &[u32; 16000],
+    runners: &[u32; TICKS],
 ) -> [TaskAnswer; 64]
     requires { ⌜ (count ≤ 64) × (ticks ≤ 16000) ⌝ }
 {

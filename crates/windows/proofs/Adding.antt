@@ -1,18 +1,18 @@
 -- Adding up, by ticks and by windows. Assumes nothing.
 use Prim.Native.Nat.{ℕ, zero, suc, _+_, _-_, _≤_, _<_, min}
-use mathlib.Core.Path.{_≡_, refl, sym, ap, ap₂, _∙_, fun-ext}
+use mathlib.Core.Path.{_≡_, refl, sym, ap, _∙_, fun-ext}
 use mathlib.Core.List.{List, [], _∷_}
 use mathlib.Core.Bool.{Bool, true, false}
 use native.Mathlib.Omega.{arith}
 use native.Mathlib.Decide.{decLe, decLt}
 use lib.Dec.{leb}
-use borrow.Author.Tests.{leb-true, leb-false, le-leb, lt-leb}
+use borrow.Author.Tests.{leb-true, leb-false}
 use Rattle.basics.specs.Choice.{pick}
-use Rattle.windows.specs.Windows.{inside, cover, size, endOf, isPlain, upto, waiting, done, always, windowsOf, addUp, _⊕_}
+use Rattle.windows.specs.Windows.{inside, cover, size, endOf, isPlain, upto, waiting, done, always, addUp, _⊕_}
 use Rattle.windows.specs.Walks.{place, merge, grow, grown}
-use Rattle.windows.proofs.Ticks.{inside-yes, inside-early, inside-late, inside-one, inside-is, Apart, apart-lower, cover-before, cover-after, cover-one, end-above, apart-plain}
+use Rattle.windows.proofs.Ticks.{inside-yes, inside-early, inside-late, inside-one, Apart, cover-after, cover-one, end-above, apart-plain}
 use Rattle.windows.proofs.Counts.{upto-⊕, upto-inside, count-inside, count-all}
-use Rattle.windows.proofs.Queue.{none, smooth, smooth-one, smooth-absorbed, smooth-units, Serves, serves-done, waiting-count, done-quiet, done-over}
+use Rattle.windows.proofs.Queue.{none, smooth, smooth-one, smooth-absorbed, smooth-units, serves-done, waiting-count, done-quiet, done-over}
 use Rattle.windows.proofs.Runs.{runs-apart, runs-end, windows-cover, windows-only}
 
 -- ---- a window of n ticks that starts in an open window, or at its end, makes the open one longer by n

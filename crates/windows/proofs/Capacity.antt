@@ -5,11 +5,9 @@ use mathlib.Core.Path.{_≡_, refl, sym, ap, ap₂, _∙_, fun-ext}
 use native.Mathlib.Omega.{arith}
 use native.Mathlib.Nat.{mod-lt, mod-eq-of-lt, mod-self, suc-mod, zero-mod}
 use native.Mathlib.Decide.{decLt, ℕ-discrete}
-use lib.Dec.{eqb}
 use borrow.Author.Tests.{eq-eqb, ne-eqb}
-use Rattle.basics.specs.Choice.{pick}
 use Rattle.windows.specs.Windows.{upto, waiting, done, _⊕_}
-use Rattle.windows.specs.Servers.{soFar, limited, Before, before, holdsAt, held}
+use Rattle.windows.specs.Servers.{soFar, limited, before, held}
 use Rattle.windows.proofs.Counts.{upto-same, upto-rises}
 use Rattle.windows.proofs.Queue.{smooth, smoothing-absorbed, done-past}
 

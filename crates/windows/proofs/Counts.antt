@@ -1,11 +1,11 @@
 -- How many units the ticks below an instant have. Assumes nothing.
 use Prim.Native.Nat.{ℕ, zero, suc, _+_, _-_, _≤_, _<_, min}
-use mathlib.Core.Path.{_≡_, refl, sym, ap, _∙_}
+use mathlib.Core.Path.{_≡_, refl}
 use mathlib.Core.List.{List, [], _∷_}
 use native.Mathlib.Omega.{arith}
 use native.Mathlib.Decide.{decLe, decLt}
 use Rattle.windows.specs.Windows.{inside, cover, size, endOf, upto, _⊕_}
-use Rattle.windows.proofs.Ticks.{inside-yes, inside-early, inside-late, Apart, cover-before, cover-after, end-above, end-rest}
+use Rattle.windows.proofs.Ticks.{inside-yes, inside-early, inside-late, Apart, cover-before, end-above, end-rest}
 
 pub upto-⊕ : (f g : ℕ → ℕ) (t : ℕ) → upto (f ⊕ g) t ≡ upto f t + upto g t
 unfolding upto

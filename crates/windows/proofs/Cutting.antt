@@ -1,15 +1,15 @@
 -- Cutting at the multiples of a period: piece by piece, that the ticks stay, and that no piece has a multiple inside. Assumes nothing.
 use Prim.Native.Nat.{ℕ, zero, suc, _+_, _-_, _%_, _≤_, _<_, max}
-use mathlib.Core.Path.{_≡_, refl, sym, ap, _∙_, fun-ext}
+use mathlib.Core.Path.{_≡_, refl, sym, ap, _∙_}
 use mathlib.Core.List.{List, [], _∷_}
 use mathlib.Core.Bool.{Bool, true, false}
 use native.Mathlib.Omega.{arith}
-use native.Mathlib.Nat.{mod-lt, mod-eq-of-lt, mod-self, suc-mod, add-suc, add-zero}
-use native.Mathlib.Decide.{decLt, ℕ-discrete}
+use native.Mathlib.Nat.{mod-lt, mod-eq-of-lt, mod-self, suc-mod, add-suc}
+use native.Mathlib.Decide.{ℕ-discrete}
 use lib.Dec.{eqb}
-use borrow.Author.Tests.{eqb-true, eqb-false, eq-eqb, ne-eqb}
+use borrow.Author.Tests.{eqb-false, eq-eqb, ne-eqb}
 use Rattle.basics.specs.Choice.{pick}
-use Rattle.windows.specs.Windows.{inside, cover, endOf, parted, cutAt, _⊕_}
+use Rattle.windows.specs.Windows.{inside, cover, endOf, parted, cutAt}
 use Rattle.windows.specs.Walks.{cutFrom}
 use Rattle.windows.proofs.Ticks.{Apart, inside-split, end-above, end-rest}
 

@@ -9,7 +9,7 @@ use lib.ListN.{length}
 use lib.Dec.{leb}
 use borrow.Author.Tests.{leb-true, leb-false, le-leb, lt-leb}
 use Rattle.basics.specs.Choice.{pick}
-use Rattle.windows.specs.Windows.{inside, cover, size, endOf, isPlain, window, join, upto, waiting, done, Fit, passed, part, fitIn, fit, _⊕_}
+use Rattle.windows.specs.Windows.{inside, cover, size, endOf, isPlain, window, join, upto, done, Fit, passed, part, fitIn, fit, _⊕_}
 use Rattle.windows.proofs.Ticks.{inside-split, Apart, apart-lower, cover-before, cover-after, cover-one, end-below, apart-plain, plain-apart, plain-end, window-cover, window-apart, window-none, window-some, join-apart, join-cover, join-size}
 use Rattle.windows.proofs.Counts.{upto-none, upto-⊕, upto-inside, count-all}
 use Rattle.windows.proofs.Queue.{done-quiet, done-serves, Serves}

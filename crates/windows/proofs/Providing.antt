@@ -1,16 +1,16 @@
 -- Time to provide, by ticks and by windows. Assumes nothing.
-use Prim.Native.Nat.{ℕ, zero, suc, _+_, _-_, _≤_, _<_, min}
-use mathlib.Core.Path.{_≡_, refl, sym, ap, _∙_}
+use Prim.Native.Nat.{ℕ, zero, suc, _+_, _-_, _≤_, _<_}
+use mathlib.Core.Path.{_≡_, refl, ap}
 use mathlib.Core.List.{List, [], _∷_}
 use mathlib.Core.Bool.{Bool, true, false}
 use native.Mathlib.Omega.{arith}
-use native.Mathlib.Decide.{decLe, decLt, ℕ-discrete}
+use native.Mathlib.Decide.{decLe, ℕ-discrete}
 use lib.Dec.{leb, eqb}
-use borrow.Author.Tests.{leb-true, leb-false, eqb-true, eqb-false, eq-eqb, ne-eqb}
+use borrow.Author.Tests.{leb-true, leb-false, eqb-true, eqb-false}
 use Rattle.basics.specs.Choice.{pick}
-use Rattle.windows.specs.Windows.{cover, endOf, size, upto, Instant, at, notProvided, firstGiven, provide}
+use Rattle.windows.specs.Windows.{cover, endOf, upto, Instant, at, notProvided, firstGiven, provide}
 use Rattle.windows.specs.Walks.{walk}
-use Rattle.windows.proofs.Ticks.{Apart, cover-one, end-above, end-rest}
+use Rattle.windows.proofs.Ticks.{Apart, cover-one}
 use Rattle.windows.proofs.Counts.{upto-rises, count-cover, count-early, count-all}
 
 -- i is the first instant at which f has given n

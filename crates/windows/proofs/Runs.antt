@@ -1,15 +1,15 @@
 -- The windows of a tick function cover just its ticks, and stand apart. Assumes nothing.
 use Prim.Native.Nat.{ℕ, zero, suc, _+_, _-_, _≤_, _<_}
-use mathlib.Core.Path.{_≡_, refl, sym, ap, _∙_, fun-ext}
+use mathlib.Core.Path.{_≡_, refl, sym, ap, _∙_}
 use mathlib.Core.List.{List, [], _∷_}
 use mathlib.Core.Bool.{Bool, true, false}
 use native.Mathlib.Omega.{arith}
-use native.Mathlib.Decide.{decLe, decLt, ℕ-discrete}
+use native.Mathlib.Decide.{decLt, ℕ-discrete}
 use lib.Dec.{ltb, eqb}
-use borrow.Author.Tests.{ltb-true, ltb-false, eqb-true, eqb-false}
+use borrow.Author.Tests.{ltb-true, ltb-false}
 use Rattle.basics.specs.Choice.{pick}
-use Rattle.windows.specs.Windows.{inside, cover, endOf, join, runs, windowsOf, _⊕_}
-use Rattle.windows.proofs.Ticks.{inside-yes, inside-early, inside-late, Apart, apart-lower, cover-before, cover-after, join-apart, join-cover, apart-same}
+use Rattle.windows.specs.Windows.{cover, endOf, join, runs, windowsOf}
+use Rattle.windows.proofs.Ticks.{inside-yes, inside-late, Apart, apart-lower, cover-before, cover-after, join-apart, join-cover, apart-same}
 
 -- every end is at hi or before
 pub join-end : (a b hi : ℕ) (l : List ℕ) → b ≤ hi → endOf l ≤ hi → endOf (join a b l) ≤ hi

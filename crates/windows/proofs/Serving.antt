@@ -1,10 +1,10 @@
 -- Work served by a supply, a window at a time: what fitting is made of. Assumes nothing.
-use Prim.Native.Nat.{ℕ, zero, suc, _+_, _-_, _≤_, _<_, min, max}
-use mathlib.Core.Path.{_≡_, refl, sym, ap, ap₂, _∙_, fun-ext}
-use mathlib.Core.List.{List, [], _∷_}
+use Prim.Native.Nat.{ℕ, suc, _+_, _-_, _≤_, _<_, min}
+use mathlib.Core.Path.{_≡_, refl, sym, ap, _∙_, fun-ext}
+use mathlib.Core.List.{List, _∷_}
 use native.Mathlib.Omega.{arith}
-use native.Mathlib.Decide.{decLe, decLt}
-use Rattle.windows.specs.Windows.{inside, cover, window, upto, waiting, done, _⊕_}
+use native.Mathlib.Decide.{decLt}
+use Rattle.windows.specs.Windows.{inside, cover, window, upto, done, _⊕_}
 use Rattle.windows.proofs.Ticks.{inside-early, inside-late, inside-none, inside-split, Apart, cover-before, window-cover}
 use Rattle.windows.proofs.Counts.{upto-none, upto-inside}
 use Rattle.windows.proofs.Queue.{done-serves, serves-done, in-turn}

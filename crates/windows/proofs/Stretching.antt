@@ -1,18 +1,15 @@
 -- Fitting, a piece at a time, as the code does it: supply before the demand is left, and demand that starts in time is served in one
 -- stretch. Assumes nothing.
-use Prim.Native.Nat.{ℕ, zero, suc, _+_, _-_, _≤_, _<_, min, max}
-use mathlib.Core.Path.{_≡_, refl, sym, ap, ap₂, _∙_}
+use Prim.Native.Nat.{ℕ, suc, _+_, _-_, _≤_, _<_, min, max}
+use mathlib.Core.Path.{_≡_, refl, sym, ap, _∙_}
 use mathlib.Core.List.{List, [], _∷_}
-use mathlib.Core.Bool.{Bool, true, false}
 use native.Mathlib.Omega.{arith}
-use native.Mathlib.Decide.{decLe, decLt}
-use lib.Dec.{ltb}
+use native.Mathlib.Decide.{decLt}
 use borrow.Author.Tests.{lt-ltb, le-ltb}
-use Rattle.basics.specs.Choice.{pick}
-use Rattle.windows.specs.Windows.{window, join, Fit, passed, part, fit, isPlain}
+use Rattle.windows.specs.Windows.{window, join, Fit, passed, fit}
 use Rattle.windows.specs.Walks.{raise, servedFirst, restFirst, openFirst}
 use Rattle.windows.proofs.Ticks.{Apart, apart-lower, window-some, window-none, window-apart, join-join, join-gap}
-use Rattle.windows.proofs.Fitting.{fit-no-demand, fit-no-supply, fit-part, Fitted, fitted}
+use Rattle.windows.proofs.Fitting.{fit-no-demand, fit-no-supply, fit-part, fitted}
 
 -- ---- what is left over
 

@@ -2,13 +2,13 @@
 use Prim.Native.Nat.{ℕ, suc, _+_, _-_, _≤_, _<_}
 use mathlib.Core.Path.{_≡_, refl, ap, _∙_}
 use mathlib.Core.List.{List, [], _∷_}
-use mathlib.Core.Bool.{true, false}
+use mathlib.Core.Bool.{true}
 use native.Mathlib.Numerals.{add-one, add-two}
 use native.Mathlib.Omega.{arith}
 use native.Mathlib.Decide.{decLe}
 use lib.ListN.{length, getD, drop, drop-of-length-le}
 use lib.Seq.{drop-cons}
-use Rattle.windows.specs.Windows.{plainFrom, isPlain}
+use Rattle.windows.specs.Windows.{isPlain}
 use Rattle.windows.proofs.Ticks.{Front, plain-front, plain-lower, not-odd}
 
 pub drop-pair : (l : List ℕ) (i : ℕ) → 2 ≤ length l - i → drop i l ≡ getD l i 0 ∷ (getD l (i + 1) 0 ∷ drop (i + 2) l)

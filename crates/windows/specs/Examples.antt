@@ -1,8 +1,7 @@
 -- Document 01, 'Checked examples', 1 to 10: the ones that are proved together, as one statement.
-use Prim.Native.Nat.{ℕ}
 use mathlib.Core.Path.{_≡_}
-use mathlib.Core.List.{List, [], _∷_}
-use Rattle.windows.specs.Windows.{addUp, cutAt, Fit, fit, Instant, at, notProvided, provide}
+use mathlib.Core.List.{[], _∷_}
+use Rattle.windows.specs.Windows.{addUp, cutAt, fit, at, notProvided, provide}
 
 pub record Checked : Type 0 where
   pub one : addUp (0 ∷ 2 ∷ 8 ∷ 9 ∷ []) (0 ∷ 1 ∷ 5 ∷ 6 ∷ 8 ∷ 10 ∷ []) ≡ 0 ∷ 3 ∷ 5 ∷ 6 ∷ 8 ∷ 11 ∷ []

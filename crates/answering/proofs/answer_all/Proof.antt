@@ -1,9 +1,9 @@
 -- `answering::answer_all` meets its contract: a walk down the servers, with the free curve of each.
-use Prim.Native.Nat.{ℕ, suc, _+_, _-_, _≤_, _<_}
+use Prim.Native.Nat.{_-_, _≤_}
 use mathlib.Core.Path.{_≡_, refl, sym, _∙_}
 use native.Mathlib.Omega.{arith}
 use borrow.Author.Needs.{needs}
-use lib.ListN.{length, take}
+use lib.ListN.{length}
 use lib.Seq.{length-take-le}
 use Rattle.table.specs.declared.Table.{Table}
 use Rattle.table.specs.Places.{Obeyed}

@@ -1,5 +1,5 @@
 -- `answering::answer_tasks` meets its contract: a walk along the tasks, on the ticks that those before leave.
-use Prim.Native.Nat.{_+_, _-_, _<_}
+use Prim.Native.Nat.{_-_, _<_}
 use mathlib.Core.Path.{_≡_, refl, sym, _∙_}
 use mathlib.Core.Logic.{⊎-elim}
 use native.Mathlib.Omega.{arith}

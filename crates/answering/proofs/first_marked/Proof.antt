@@ -2,7 +2,6 @@
 use Prim.Native.Nat.{_-_}
 use mathlib.Core.Path.{_≡_, sym}
 use mathlib.Core.Bool.{false}
-use native.Mathlib.Omega.{arith}
 use borrow.Author.Needs.{needs}
 use lib.ListN.{getD}
 use Rattle.table.proofs.Places.{Walk, walk-starts, walk-finds, walk-goes-on, walk-ends}

@@ -1,4 +1,4 @@
--- `writing::clear` meets its contract. The loop's invariant: the first `i` numbers are 0.
+-- `buffers::clear` meets its contract. The loop's invariant: the first `i` numbers are 0.
 use Prim.Native.Nat.{_-_}
 use native.Mathlib.Omega.{arith}
 use lib.ListN.{length, replicate}

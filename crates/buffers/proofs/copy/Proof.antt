@@ -1,4 +1,4 @@
--- `writing::copy` meets its contract. The loop's invariant: the first `i` numbers are those of the curve.
+-- `buffers::copy` meets its contract. The loop's invariant: the first `i` numbers are those of the curve.
 use Prim.Native.Nat.{_-_}
 use lib.ListN.{length}
 use borrow.Author.Needs.{needs}

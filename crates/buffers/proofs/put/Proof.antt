@@ -1,4 +1,4 @@
--- `writing::put` meets its contract.
+-- `buffers::put` meets its contract.
 use Prim.Native.Nat.{_+_, _-_, _<_}
 use mathlib.Core.Path.{_≡_}
 use mathlib.Core.Logic.{⊎-elim}

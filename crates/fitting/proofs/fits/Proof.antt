@@ -1,9 +1,8 @@
--- `curves::fitting::fits` meets its contract. The loop's invariant: of each room, what is free and the pieces before the walk make up the
+-- `fitting::fits` meets its contract. The loop's invariant: of each room, what is free and the pieces before the walk make up the
 -- room lent and the whole result.
-use Prim.Native.Nat.{ℕ, _+_, _-_, _<_, _≤_}
-use mathlib.Core.Path.{_≡_, refl, sym, ap, _∙_}
+use Prim.Native.Nat.{_-_}
+use mathlib.Core.Path.{_≡_, refl, sym}
 use native.Mathlib.Omega.{arith}
-use lib.ListN.{length, drop}
 use Rattle.windows.specs.Windows.{fit, passed}
 use Rattle.windows.specs.Walks.{servedFirst, restFirst}
 use Rattle.fitting.specs.Steps.{fitAhead, InFit, Goes}

@@ -1,9 +1,8 @@
--- `curves::fitting::write` meets its contract. The loop's invariant: of each result, what is written and the pieces before the walk are
+-- `fitting::write` meets its contract. The loop's invariant: of each result, what is written and the pieces before the walk are
 -- together the whole.
-use Prim.Native.Nat.{ℕ, _+_, _-_, _<_, _≤_}
-use mathlib.Core.Path.{_≡_, refl, sym, ap, _∙_}
+use Prim.Native.Nat.{_-_}
+use mathlib.Core.Path.{_≡_, refl}
 use native.Mathlib.Omega.{arith}
-use lib.ListN.{length, drop}
 use Rattle.windows.specs.Windows.{fit, passed}
 use Rattle.windows.specs.Walks.{servedFirst, restFirst}
 use Rattle.fitting.specs.Steps.{fitAhead, InFit, Goes}

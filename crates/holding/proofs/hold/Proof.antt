@@ -14,13 +14,24 @@ Inv-loop capacity period demand free held₀ left₀ place₀ counts₀ f₀ hel
 abbrev μ-loop : tie.MeasureT-loop
 μ-loop capacity period demand free held₀ left₀ place₀ counts₀ f₀ held left place counts f = 16000 - place .at
 
+-- places further back: the start from the loop, and the loop from behind the place gone on to
+abbrev start : tie.At-loop Inv-loop μ-loop → tie.Start Inv-loop μ-loop
+start c = c .before .before .before .before .before .before
+
+abbrev turned : tie.After-entered Inv-loop μ-loop → tie.At-loop Inv-loop μ-loop
+turned c = c .before .before .before .before .before
+
 -- what holds before the loop, and in a turn
-given : (c : tie.After-start Inv-loop μ-loop) → Given (c .before .before .before .before .before .args .period) (c .before .before .before .before .before .args .demand .now) (c .before .before .before .before .before .args .free .now)
-given c = record { some = c .before .before .before .before .before .pre .0; wanted = c .before .before .before .before .before .pre .3; offered = c .before .before .before .before .before .pre .4 }
+given : (c : tie.After-start Inv-loop μ-loop) → let a = c .before .before .before .before .before .args in Given (a .period) (a .demand .now) (a .free .now)
+given c = let p = c .before .before .before .before .before .pre in record { some = p .0; wanted = p .3; offered = p .4 }
 
 turn : (c : tie.After-entered Inv-loop μ-loop)
-    → Turn (c .before .before .before .before .before .before .before .before .before .before .before .args .capacity) (c .before .before .before .before .before .before .before .before .before .before .before .args .period) (c .before .before .before .before .before .before .before .before .before .before .before .args .demand .now) (c .before .before .before .before .before .before .before .before .before .before .before .args .free .now) (c .before .before .before .before .before .loop .place .at) (c .entered .result) (c .before .before .before .before .before .loop .f)
-turn c = turn-in (given (c .before .before .before .before .before .before)) (c .before .before .before .before .before .loop .inv .0) (c .before .before .before .before .loop-test .taken) (c .before .before .larger .ensures) (c .entered .ensures)
+    → let k = turned c in
+    let a = start k .args in
+    Turn (a .capacity) (a .period) (a .demand .now) (a .free .now) (k .loop .place .at) (c .entered .result) (k .loop .f)
+turn c =
+    let k = turned c in
+    turn-in (given (k .before)) (k .loop .inv .0) (c .before .before .before .before .loop-test .taken) (c .before .before .larger .ensures) (c .entered .ensures)
 
 start-requires : tie.Need-start-requires Inv-loop μ-loop
 start-requires c κs = search needs
@@ -48,10 +59,12 @@ shared-slice-read-end c = free-window (given (c .before .before .before .before 
 
 entered-requires : tie.Need-entered-requires Inv-loop μ-loop
 entered-requires c κs =
-    let s = c .before .before .before .before .loop .inv .0 in
-    let g = given (c .before .before .before .before .before) in
-    let k = c .before .before .before .loop-test .taken in
-    (c .before .before .before .before .before .before .before .before .before .before .pre .0, c .before .before .before .before .before .before .before .before .before .before .pre .1, omega (arith, c .before .larger .ensures, s .most, free-window g s k .rises, free-most g s k))
+    let t = c .before .before .before in
+    let s = t .before .loop .inv .0 in
+    let p = start (t .before) .pre in
+    let g = given (t .before .before) in
+    let k = t .loop-test .taken in
+    (p .0, p .1, omega (arith, c .before .larger .ensures, s .most, free-window g s k .rises, free-most g s k), s .paced .turn)
 
 next-piece-requires : tie.Need-next-piece-requires Inv-loop μ-loop
 next-piece-requires c κs = turn-offered (turn c)
@@ -60,7 +73,10 @@ next-window-requires : tie.Need-next-window-requires Inv-loop μ-loop
 next-window-requires c κs = turn (c .before) .window .pair
 
 put-requires : tie.Need-put-requires Inv-loop μ-loop
-put-requires c κs = draws-room (turn (c .before .before .before .before)) (c .before .before .before .before .entered .ensures .there) (c .before .before .before .next-piece .ensures) (c .before .before .before .before .before .before .before .before .before .loop .inv .1 .in-held) (c .before .before .before .before .before .before .before .before .before .before .before .before .before .before .before .pre .5)
+put-requires c κs =
+    let e = c .before .before .before .before in
+    let k = turned e in
+    draws-room (turn e) (e .entered .ensures .there) (c .before .before .before .next-piece .ensures) (k .loop .inv .1 .in-held) (start k .pre .5)
 
 served-requires : tie.Need-served-requires Inv-loop μ-loop
 served-requires c κs = c .before .before .before .before .before .before .next-piece .ensures .takes (c .before .before .before .before .if1 .taken)
@@ -70,11 +86,16 @@ loop-less c = turn-less (turn (c .before .before .before .before .before .before
 
 loop-again : tie.Need-loop-again Inv-loop μ-loop
 loop-again c =
+    let e = c .before .before .before .before .before .before .before .before in
     rw (c .before .before .before .before .before .before .next-window .ensures)
-    (turn-held (turn (c .before .before .before .before .before .before .before .before)) (c .before .before .before .before .before .before .before .before .entered .ensures .there) (c .before .before .before .before .before .before .before .before .before .before .before .before .before .loop .inv .1) (c .before .before .before .before .before .before .before .next-piece .ensures) (c .before .before .before .before .before .if1 .taken) (c .before .before .before .put .ensures) (c .served .ensures))
+    (turn-held (turn e) (e .entered .ensures .there) (turned e .loop .inv .1) (c .before .before .before .before .before .before .before .next-piece .ensures) (c .before .before .before .before .before .if1 .taken) (c .before .before .before .put .ensures)
+    (c .served .ensures))
 
 put-requires-2 : tie.Need-put-requires-2 Inv-loop μ-loop
-put-requires-2 c κs = draws-room (turn (c .before .before .before .before)) (c .before .before .before .before .entered .ensures .there) (c .before .before .before .next-piece .ensures) (c .before .before .before .before .before .before .before .before .before .loop .inv .1 .in-left) (c .before .before .before .before .before .before .before .before .before .before .before .before .before .before .before .pre .6)
+put-requires-2 c κs =
+    let e = c .before .before .before .before in
+    let k = turned e in
+    draws-room (turn e) (e .entered .ensures .there) (c .before .before .before .next-piece .ensures) (k .loop .inv .1 .in-left) (start k .pre .6)
 
 passed-requires : tie.Need-passed-requires Inv-loop μ-loop
 passed-requires c κs = search needs
@@ -84,8 +105,10 @@ loop-less-2 c = turn-less (turn (c .before .before .before .before .before .befo
 
 loop-again-2 : tie.Need-loop-again-2 Inv-loop μ-loop
 loop-again-2 c =
+    let e = c .before .before .before .before .before .before .before .before in
     rw (c .before .before .before .before .before .before .next-window .ensures)
-    (turn-passed (turn (c .before .before .before .before .before .before .before .before)) (c .before .before .before .before .before .before .before .before .entered .ensures .there) (c .before .before .before .before .before .before .before .before .before .before .before .before .before .loop .inv .1) (c .before .before .before .before .before .before .before .next-piece .ensures) (c .before .before .before .before .before .if1 .left) (c .before .before .before .put2 .ensures) (c .passed .ensures))
+    (turn-passed (turn e) (e .entered .ensures .there) (turned e .loop .inv .1) (c .before .before .before .before .before .before .before .next-piece .ensures) (c .before .before .before .before .before .if1 .left) (c .before .before .before .put2 .ensures)
+    (c .passed .ensures))
 
 same-length : tie.Need-same-length Inv-loop μ-loop
 same-length c = c .before .loop .inv .1 .in-held .same

@@ -1,5 +1,6 @@
 -- `printing::put_refused` meets its contract: the word, two fields and the line feed.
 use Rattle.putting.proofs.Puts.{put-more}
+use Rattle.printing.specs.Report.{refusedLine}
 use borrow.Author.Needs.{needs}
 use Rattle.printing.proofs.put_refused.Statement.{statement}
 use Rattle.printing.proofs.put_refused.Tie as tie
@@ -20,6 +21,7 @@ same-length : tie.Need-same-length
 same-length c = search needs
 
 returns : tie.Need-returns
+unfolding refusedLine
 returns c =
     let feed = c .before .before in
     let line = feed .before .before .before .before in

@@ -1,5 +1,6 @@
 -- `printing::put_report` meets its contract: the refusal, or the lines of the span, the servers and the tasks.
 use Rattle.putting.proofs.Puts.{put-more}
+use Rattle.printing.specs.Report.{reportOf}
 use borrow.Author.Needs.{needs}
 use borrow.Author.Tests.{eq-eqb, ne-eqb}
 use Rattle.printing.proofs.put_report.Statement.{statement}
@@ -12,6 +13,7 @@ same-length : tie.Need-same-length
 same-length c = search needs
 
 returns : tie.Need-returns
+unfolding reportOf
 returns c =
     let refused = c .before .before in
     (rw (ne-eqb _ _ (refused .before .before .if1 .taken)) (refused .put-refused .ensures .0), search needs)
@@ -29,6 +31,7 @@ same-length-2 : tie.Need-same-length-2
 same-length-2 c = search needs
 
 returns-2 : tie.Need-returns-2
+unfolding reportOf
 returns-2 c =
     let tasks = c .before .before in
     let servers = tasks .before .before .before .before in

@@ -1,4 +1,5 @@
 -- `printing::put_response` meets its contract: each answer by its own fields.
+use Rattle.printing.specs.Report.{responseFields}
 use borrow.Author.Needs.{needs}
 use Rattle.printing.proofs.put_response.Statement.{statement}
 use Rattle.printing.proofs.put_response.Tie as tie
@@ -39,6 +40,7 @@ same-length-2 : tie.Need-same-length-2
 same-length-2 c = search needs
 
 returns-2 : tie.Need-returns-2
+unfolding responseFields
 returns-2 c =
     let unfinished = c .before .before in
     rw (unfinished .before .before .before .before .response2 .given .1) (unfinished .put-labelled .ensures .0, search needs)
@@ -47,6 +49,7 @@ same-length-3 : tie.Need-same-length-3
 same-length-3 c = search needs
 
 returns-3 : tie.Need-returns-3
+unfolding responseFields
 returns-3 c =
     let none = c .before .before in
     rw (none .before .before .before .enum-told .given .1) (none .put-word .ensures, search needs)

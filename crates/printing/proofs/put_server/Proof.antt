@@ -1,5 +1,6 @@
 -- `printing::put_server` meets its contract: the word, three fields and the line feed.
 use Rattle.putting.proofs.Puts.{put-more}
+use Rattle.printing.specs.Report.{serverLine}
 use borrow.Author.Needs.{needs}
 use Rattle.printing.proofs.put_server.Statement.{statement}
 use Rattle.printing.proofs.put_server.Tie as tie
@@ -23,6 +24,7 @@ same-length : tie.Need-same-length
 same-length c = search needs
 
 returns : tie.Need-returns
+unfolding serverLine
 returns c =
     let feed = c .before .before in
     let short = feed .before .before .before .before in

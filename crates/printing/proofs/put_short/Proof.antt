@@ -1,4 +1,5 @@
 -- `printing::put_short` meets its contract: the period, or a dash.
+use Rattle.printing.specs.Report.{shortField}
 use borrow.Author.Needs.{needs}
 use Rattle.printing.proofs.put_short.Statement.{statement}
 use Rattle.printing.proofs.put_short.Tie as tie
@@ -22,6 +23,7 @@ same-length : tie.Need-same-length
 same-length c = search needs
 
 returns : tie.Need-returns
+unfolding shortField
 returns c =
     let period = c .before .before in
     rw (period .before .before .before .short .given .1) (period .put-field .ensures)
@@ -30,6 +32,7 @@ same-length-2 : tie.Need-same-length-2
 same-length-2 c = search needs
 
 returns-2 : tie.Need-returns-2
+unfolding shortField
 returns-2 c =
     let dash = c .before .before in
     rw (dash .before .before .before .enum-told .given .1) (dash .put-word .ensures, search needs)

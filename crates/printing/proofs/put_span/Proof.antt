@@ -1,5 +1,6 @@
 -- `printing::put_span` meets its contract: the word, a field and the line feed.
 use Rattle.putting.proofs.Puts.{put-more}
+use Rattle.printing.specs.Report.{spanLine}
 use borrow.Author.Needs.{needs}
 use Rattle.printing.proofs.put_span.Statement.{statement}
 use Rattle.printing.proofs.put_span.Tie as tie
@@ -17,6 +18,7 @@ same-length : tie.Need-same-length
 same-length c = search needs
 
 returns : tie.Need-returns
+unfolding spanLine
 returns c =
     let feed = c .before .before in
     let span = feed .before .before .before .before in

@@ -1,5 +1,6 @@
 -- `printing::put_task` meets its contract: the word, a field, what is said of the task and the line feed.
 use Rattle.putting.proofs.Puts.{put-more}
+use Rattle.printing.specs.Report.{taskLine}
 use borrow.Author.Needs.{needs}
 use Rattle.printing.proofs.put_task.Statement.{statement}
 use Rattle.printing.proofs.put_task.Tie as tie
@@ -20,6 +21,7 @@ same-length : tie.Need-same-length
 same-length c = search needs
 
 returns : tie.Need-returns
+unfolding taskLine
 returns c =
     let feed = c .before .before in
     let response = feed .before .before .before .before in

@@ -1,6 +1,7 @@
 -- `printing::put_worst` meets its contract: the word and three fields.
 use mir.Facts.{toZ-ofZ}
 use Rattle.putting.proofs.Puts.{put-more}
+use Rattle.printing.specs.Report.{responseFields}
 use borrow.Author.Needs.{needs, sfits-of}
 use Rattle.printing.proofs.put_worst.Statement.{statement}
 use Rattle.printing.proofs.put_worst.Tie as tie
@@ -21,6 +22,7 @@ same-length : tie.Need-same-length
 same-length c = search needs
 
 returns : tie.Need-returns
+unfolding responseFields
 returns c =
     let margin = c .before .before in
     let release = margin .before .before .before .before .before in

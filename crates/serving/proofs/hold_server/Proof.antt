@@ -1,18 +1,21 @@
--- `scheduling::sharing::hold_server` meets its contract: what the server would hold is written, fitted into its free curve, and what is left is
+-- `serving::hold_server` meets its contract: what the server would hold is written, fitted into its free curve, and what is left is
 -- copied back.
-use Prim.Native.Nat.{ℕ, _≤_, _<_}
-use mathlib.Core.Path.{_≡_, refl, sym, ap, _∙_}
-use mathlib.Core.List.{List}
+use mathlib.Core.Path.{_≡_, refl, sym, _∙_}
 use native.Mathlib.Omega.{arith}
 use borrow.Author.Needs.{needs}
-use lib.ListN.{length, take}
 use lib.Seq.{length-take-le}
 use Rattle.table.proofs.Obeyed.{servers-most, span-most, server-period, server-ticks}
-use Rattle.buffers.specs.Parts.{PlainBelow, Wrote}
 use Rattle.demands.proofs.Additions.{plain-higher, written-copied}
 use Rattle.serving.proofs.ServerTicks.{wanted-plain, server-holds, server-leaves, leaves-room}
 use Rattle.serving.proofs.hold_server.Statement.{statement}
 use Rattle.serving.proofs.hold_server.Tie as tie
+
+-- places further back: the start from behind what is wanted, and that from behind the walk
+abbrev start : tie.After-wanted → tie.Start
+start c = c .before .before .before .before .before .before .before .before .before .before
+
+abbrev asked : tie.After-hold → tie.After-wanted
+asked c = c .before .before .before .before .before .before .before .before .before .before .before
 
 mul-server : tie.Need-mul-server
 mul-server c = search (needs, servers-most (c .before .before .before .before .before .args .t1) (c .before .before .before .before .before .pre .0))
@@ -30,16 +33,17 @@ slice-aggregate-hold : tie.Need-slice-aggregate-hold
 slice-aggregate-hold c = sym (length-take-le _ _ (c .before .before .before .before .before .before .before .wanted .ensures .0 .count))
 
 slice-reshare-prefix-hold-2 : tie.Need-slice-reshare-prefix-hold-2
-slice-reshare-prefix-hold-2 c = c .before .before .before .before .before .before .before .before .before .before .before .before .before .before .before .before .before .pre .2 .count
+slice-reshare-prefix-hold-2 c = start (c .before .before .before .before .before .before .before) .pre .2 .count
 
 slice-aggregate-hold-2 : tie.Need-slice-aggregate-hold-2
-slice-aggregate-hold-2 c = sym (length-take-le _ _ (c .before .before .before .before .before .before .before .before .before .before .before .before .before .before .before .before .before .before .pre .2 .count))
+slice-aggregate-hold-2 c = sym (length-take-le _ _ (start (c .before .before .before .before .before .before .before .before) .pre .2 .count))
 
 hold-requires : tie.Need-hold-requires
 hold-requires c κs =
-    let a = c .before .before .before .before .before .before .before .before .before .before .before .before .before .before .before .before .before .before .before .before .args in
-    let p = c .before .before .before .before .before .before .before .before .before .before .before .before .before .before .before .before .before .before .before .before .pre in
-    let w = c .before .before .before .before .before .before .before .before .before .before .wanted .ensures in
+    let k = c .before .before .before .before .before .before .before .before .before .before in
+    let a = start k .args in
+    let p = start k .pre in
+    let w = k .wanted .ensures in
     let few = server-ticks (a .t1) (p .0) (a .i) (p .1) in
     let span = span-most (a .t1) (p .0) in (
       server-period (a .t1) (p .0) (a .i) (p .1),
@@ -59,10 +63,11 @@ slice-aggregate-copy c = sym (length-take-le _ _ (c .before .before .before .bef
 
 copy-requires : tie.Need-copy-requires
 copy-requires c κs =
-    let a = c .before .before .before .before .before .before .before .before .before .before .before .before .before .before .before .before .before .before .before .before .before .before .before .before .before .before .before .args in
-    let p = c .before .before .before .before .before .before .before .before .before .before .before .before .before .before .before .before .before .before .before .before .before .before .before .before .before .before .before .pre in
-    let few = leaves-room (a .t1) (p .0) (a .i) (p .1) _ (p .2 .curve) _ (c .before .before .before .before .before .before .before .before .before .before .before .before .before .before .before .before .before .wanted .ensures .0 .front) (c .before .before .before .before .before .before .hold .ensures .1) in
-    omega (arith, few, p .2 .room)
+    let h = c .before .before .before .before .before .before in
+    let k = asked h in
+    let a = start k .args in
+    let p = start k .pre in
+    omega (arith, leaves-room (a .t1) (p .0) (a .i) (p .1) _ (p .2 .curve) _ (k .wanted .ensures .0 .front) (h .hold .ensures .1), p .2 .room)
 
 same-length : tie.Need-same-length
 same-length c = search needs
@@ -81,15 +86,17 @@ same-length-5 c = search needs
 
 returns : tie.Need-returns
 returns c =
-    let a = c .before .before .before .before .before .before .before .before .before .before .before .before .before .before .before .before .before .before .before .before .before .before .before .before .before .before .before .before .before .before .args in
-    let p = c .before .before .before .before .before .before .before .before .before .before .before .before .before .before .before .before .before .before .before .before .before .before .before .before .before .before .before .before .before .before .pre in
-    let w = c .before .before .before .before .before .before .before .before .before .before .before .before .before .before .before .before .before .before .before .before .wanted .ensures in
-    let h = c .before .before .before .before .before .before .before .before .before .hold .ensures in (
-      server-holds (a .t1) (p .0) (a .i) (p .1) _ (p .2 .curve) _ (w .0 .front) (h .0),
-      written-copied (server-leaves (a .t1) (p .0) (a .i) (p .1) _ (p .2 .curve) _ (w .0 .front) (h .1)) (c .before .before .copy .ensures),
+    let h = c .before .before .before .before .before .before .before .before .before in
+    let k = asked h in
+    let a = start k .args in
+    let p = start k .pre in
+    let w = k .wanted .ensures in
+    let e = h .hold .ensures in (
+      server-holds (a .t1) (p .0) (a .i) (p .1) _ (p .2 .curve) _ (w .0 .front) (e .0),
+      written-copied (server-leaves (a .t1) (p .0) (a .i) (p .1) _ (p .2 .curve) _ (w .0 .front) (e .1)) (c .before .before .copy .ensures),
       w .0 .same,
       w .1,
-      h .1 .same ∙ w .2,
+      e .1 .same ∙ w .2,
     )
 
 pub hold-server-spec : {M : Type 1} → statement M

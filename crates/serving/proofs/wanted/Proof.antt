@@ -1,15 +1,11 @@
--- `scheduling::sharing::wanted` meets its contract, by the server's kind.
-use Prim.Native.Nat.{ℕ, suc, _+_, _-_, _≤_, _<_}
-use mathlib.Core.Path.{_≡_, refl, sym, ap, _∙_}
-use mathlib.Core.List.{List}
+-- `serving::wanted` meets its contract, by the server's kind.
+use Prim.Native.Nat.{_+_, _-_}
+use mathlib.Core.Path.{_≡_, refl}
 use native.Mathlib.Omega.{arith}
 use borrow.Author.Needs.{needs}
-use lib.ListN.{length}
-use Rattle.table.specs.declared.Kind.{Kind}
 use Rattle.table.specs.Places.{serverAt}
 use Rattle.table.proofs.Obeyed.{servers-most, span-some, span-most}
 use Rattle.schedule.specs.Curves.{summed}
-use Rattle.buffers.specs.Parts.{Wrote}
 use Rattle.serving.specs.Wanted.{wantedBy}
 use Rattle.demands.proofs.Additions.{written-same}
 use Rattle.serving.proofs.ServerTicks.{span-drawn, empty-curve}
@@ -51,10 +47,12 @@ same-length-3 c = search needs
 
 returns : tie.Need-returns
 returns c =
-    let a = c .before .before .before .before .before .before .before .before .before .before .before .before .before .before .before .before .args in
-    let e = c .before .before .before .before .before .before .sum-tasks .ensures in
+    let s = c .before .before .before .before .before .before in
+    let told = s .before .before .before .before in
+    let a = told .before .before .before .before .before .before .args in
+    let e = s .sum-tasks .ensures in
     let place : (a .i + 1) - 1 ≡ a .i = omega arith in
-    let same : summed (a .t1) ((a .i + 1) - 1) ≡ wantedBy (serverAt (a .t1) (a .i) .kind) (a .t1) (a .i) = rw (place, c .before .before .before .before .before .before .before .before .before .before .enum-told .given .1) in
+    let same : summed (a .t1) ((a .i + 1) - 1) ≡ wantedBy (serverAt (a .t1) (a .i) .kind) (a .t1) (a .i) = rw (place, told .enum-told .given .1) in
     (written-same same (e .0), e .1, e .2)
 
 same-length-4 : tie.Need-same-length-4
@@ -62,9 +60,9 @@ same-length-4 c = search needs
 
 returns-2 : tie.Need-returns-2
 returns-2 c =
-    let a = c .before .before .before .before .before .before .before .before .before .before .args in
-    let p = c .before .before .before .before .before .before .before .before .before .before .pre in
-    rw (c .before .before .before .before .enum-told2 .given .1) (span-drawn (a .t1 .span) (span-most (a .t1) (p .0)) (c .before .before .put .ensures), refl, refl)
+    let told = c .before .before .before .before in
+    let s = told .before .before .before .before .before .before in
+    rw (told .enum-told2 .given .1) (span-drawn (s .args .t1 .span) (span-most (s .args .t1) (s .pre .0)) (c .before .before .put .ensures), refl, refl)
 
 pub wanted-spec : {M : Type 1} → statement M
 wanted-spec =

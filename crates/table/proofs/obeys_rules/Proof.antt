@@ -1,7 +1,7 @@
 -- `table::obeys_rules` meets its contract, test by test.
 use Prim.Native.Nat.{ℕ, _≤_}
 use mathlib.Core.Path.{_≡_, refl, sym, _∙_}
-use mathlib.Core.Bool.{true, false, _&&_}
+use mathlib.Core.Bool.{true}
 use lib.Dec.{leb}
 use borrow.Author.Tests.{not-true, not-false, leb-true}
 use Rattle.basics.proofs.Tests.{and-right}

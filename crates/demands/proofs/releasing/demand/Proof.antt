@@ -1,4 +1,4 @@
--- `demands::demand` meets its contract. The loop's invariant: the windows written and the open one cover the work that came before the
+-- `demands::releasing::demand` meets its contract. The loop's invariant: the windows written and the open one cover the work that came before the
 -- next release.
 use Prim.Native.Nat.{ℕ, _-_, _≤_, _<_, min}
 use mathlib.Core.Path.{_≡_}

@@ -1,4 +1,4 @@
--- `demands::next_release` meets its contract.
+-- `demands::releasing::next_release` meets its contract.
 use Prim.Native.Nat.{_≤_}
 use mathlib.Core.Path.{refl}
 use Rattle.demands.proofs.Releases.{period-most}

@@ -1,5 +1,4 @@
 -- `demands::summing::add_below` meets its contract: the curves are added up, and the sum is cut off.
-use Prim.Native.Nat.{ℕ}
 use mathlib.Core.Path.{_≡_, refl}
 use borrow.Author.Needs.{needs}
 use Rattle.windows.specs.Windows.{addUp}

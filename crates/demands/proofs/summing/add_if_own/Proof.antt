@@ -1,4 +1,4 @@
--- `scheduling::summing::add_if_own` meets its contract.
+-- `demands::summing::add_if_own` meets its contract.
 use mathlib.Core.Path.{refl}
 use borrow.Author.Needs.{needs}
 use borrow.Author.Tests.{eq-eqb, ne-eqb}

@@ -1,17 +1,24 @@
--- `scheduling::summing::add_task` meets its contract: the task's demand is written, added to the sum, and the new sum is copied back.
-use Prim.Native.Nat.{ℕ, _≤_}
-use mathlib.Core.Path.{_≡_, sym, ap, _∙_}
+-- `demands::summing::add_task` meets its contract: the task's demand is written, added to the sum, and the new sum is copied back.
+use Prim.Native.Nat.{ℕ}
+use mathlib.Core.Path.{_≡_, sym, ap}
 use mathlib.Core.List.{List}
 use native.Mathlib.Omega.{arith}
 use borrow.Author.Needs.{needs}
-use lib.ListN.{length, take}
+use lib.ListN.{take}
 use lib.Seq.{length-take-le}
 use Rattle.windows.specs.Windows.{addUp}
-use Rattle.schedule.specs.Curves.{below, demandOf}
-use Rattle.buffers.specs.Parts.{PlainBelow, Wrote}
+use Rattle.schedule.specs.Curves.{below}
+use Rattle.buffers.specs.Parts.{PlainBelow}
 use Rattle.demands.proofs.Additions.{demand-plain, sum-room, written-copied, written-same}
 use Rattle.demands.proofs.summing.add_task.Statement.{statement}
 use Rattle.demands.proofs.summing.add_task.Tie as tie
+
+-- places further back: the start from behind the demand, and that from behind the sum
+abbrev start : tie.After-demand → tie.Start
+start c = c .before .before .before .before .before
+
+abbrev demanded : tie.After-add-below → tie.After-demand
+demanded c = c .before .before .before .before .before .before
 
 demand-requires : tie.Need-demand-requires
 demand-requires c κs = let p = c .before .before .before .before .pre in (p .0, p .2, p .4)
@@ -33,7 +40,10 @@ part-plain : (c : tie.After-demand) → PlainBelow (c .before .before .before .b
 part-plain c = let p = c .before .before .before .before .before .pre in rw (c .demand .ensures .front) (demand-plain (c .before .before .before .before .before .args .task) (c .before .before .before .before .before .args .span) (p .0) (p .2))
 
 add-below-requires : tie.Need-add-below-requires
-add-below-requires c κs = let p = c .before .before .before .before .before .before .before .before .before .before .pre in (p .3 .curve, part-plain (c .before .before .before .before .before), p .1, p .2, p .5)
+add-below-requires c κs =
+    let d = c .before .before .before .before .before in
+    let p = start d .pre in
+    (p .3 .curve, part-plain d, p .1, p .2, p .5)
 
 slice-reshare-prefix-copy : tie.Need-slice-reshare-prefix-copy
 slice-reshare-prefix-copy c = c .before .before .add-below .ensures .count
@@ -43,11 +53,12 @@ slice-aggregate-copy c = sym (length-take-le (c .before .before .before .add-bel
 
 copy-requires : tie.Need-copy-requires
 copy-requires c κs =
-    let d = c .before .before .before .before .before .before .before .before .before .before in
-    let a = c .before .before .before .before .before .before .before .before .before .before .before .before .before .before .before .args in
-    let p = c .before .before .before .before .before .before .before .before .before .before .before .before .before .before .before .pre in
+    let k = c .before .before .before .before in
+    let d = demanded k in
+    let a = start d .args in
+    let p = start d .pre in
     let few = sum-room (a .span) (take (a .n) (a .sum .now)) (take (d .demand .result) (d .demand .last .1 .1 .0)) (a .spare .now) (p .1) (p .2) (p .3 .curve) (part-plain d) (p .5) in
-    rw (c .before .before .before .before .add-below .ensures .front) (omega (arith, few, p .3 .room))
+    rw (k .add-below .ensures .front) (omega (arith, few, p .3 .room))
 
 same-length : tie.Need-same-length
 same-length c = search needs
@@ -60,12 +71,13 @@ same-length-3 c = search needs
 
 returns : tie.Need-returns
 returns c =
-    let d = c .before .before .before .before .before .before .before .before .before .before .before .before .before in
-    let a = c .before .before .before .before .before .before .before .before .before .before .before .before .before .before .before .before .before .before .args in (
+    let k = c .before .before .before .before .before .before .before in
+    let d = demanded k in
+    let a = start d .args in (
       written-same (ap (λ (l : List ℕ). below (a .span) (addUp (take (a .n) (a .sum .now)) l)) (d .demand .ensures .front))
-          (written-copied (c .before .before .before .before .before .before .before .add-below .ensures) (c .before .before .copy .ensures)),
+          (written-copied (k .add-below .ensures) (c .before .before .copy .ensures)),
       d .demand .ensures .same,
-      c .before .before .before .before .before .before .before .add-below .ensures .same,
+      k .add-below .ensures .same,
     )
 
 pub add-task-spec : {M : Type 1} → statement M

@@ -1,4 +1,4 @@
--- `scheduling::summing::cut_off` meets its contract: only the last end can lie behind the span.
+-- `demands::summing::cut_off` meets its contract: only the last end can lie behind the span.
 use Prim.Native.Nat.{_-_}
 use native.Mathlib.Nat.{pos-of-ne-zero}
 use borrow.Author.Needs.{needs}

@@ -1,7 +1,6 @@
--- `scheduling::summing::sum_tasks` meets its contract. The loop's invariant: the demands of the tasks below place j are summed.
-use Prim.Native.Nat.{ℕ, suc, _+_, _-_, _≤_, _<_}
-use mathlib.Core.Path.{_≡_, refl, sym, ap, subst, _∙_}
-use mathlib.Core.List.{List}
+-- `demands::summing::sum_tasks` meets its contract. The loop's invariant: the demands of the tasks below place j are summed.
+use Prim.Native.Nat.{ℕ, _-_, _≤_}
+use mathlib.Core.Path.{_≡_, refl, subst, _∙_}
 use native.Mathlib.Omega.{arith}
 use borrow.Author.Needs.{needs}
 use lib.ListN.{length}
@@ -19,6 +18,10 @@ Inv-loop server sum₀ part₀ spare₀ table count span n₀ j₀ sum part spar
 abbrev μ-loop : tie.MeasureT-loop
 μ-loop server sum₀ part₀ spare₀ table count span n₀ j₀ sum part spare n j = count - j
 
+-- the start, from the loop
+abbrev start : tie.At-loop Inv-loop μ-loop → tie.Start Inv-loop μ-loop
+start c = c .before .before .before .before
+
 loop-holds : tie.Need-loop-holds Inv-loop μ-loop
 loop-holds c = (search needs, sum-none (c .before .before .before .args .t1) (c .before .before .before .args .server - 1) _, refl, refl)
 
@@ -30,9 +33,10 @@ element-copy-out-task c = search (needs, tasks-most (c .before .before .before .
 
 add-if-own-requires : tie.Need-add-if-own-requires Inv-loop μ-loop
 add-if-own-requires c κs =
-    let a = c .before .before .before .before .before .before .before .before .before .args in
-    let p = c .before .before .before .before .before .before .before .before .before .pre in
-    let l = c .before .before .before .before .before .loop in
+    let k = c .before .before .before .before .before in
+    let a = start k .args in
+    let p = start k .pre in
+    let l = k .loop in
     let h = c .before .before .before .before .loop-test .taken in (
       task-obeyed (a .t1) (p .0) (l .j) h,
       span-some (a .t1) (p .0),
@@ -50,11 +54,14 @@ loop-less c = search needs
 
 loop-again : tie.Need-loop-again Inv-loop μ-loop
 loop-again c =
-    let a = c .before .before .before .before .before .before .before .before .before .before .before .before .before .before .before .before .args in
-    let p = c .before .before .before .before .before .before .before .before .before .before .before .before .before .before .before .before .pre in
-    let l = c .before .before .before .before .before .before .before .before .before .before .before .before .loop in
-    let e = c .before .before .before .before .before .before .add-if-own .ensures in (
-      omega (arith, c .before .before .before .before .before .before .before .before .before .before .before .loop-test .taken),
+    let added = c .before .before .before .before .before .before in
+    let t = added .before .before .before .before .before in
+    let k = t .before in
+    let a = start k .args in
+    let p = start k .pre in
+    let l = k .loop in
+    let e = added .add-if-own .ensures in (
+      omega (arith, t .loop-test .taken),
       sum-more (a .t1) (a .server - 1) (a .sum .now) (p .0) (l .j) (l .inv .1) (a .server) (omega (arith, p .1)) (e .0),
       e .1 ∙ l .inv .2,
       e .2 ∙ l .inv .3,

@@ -1,8 +1,7 @@
--- `curves::fitting::Place::next` meets its contract: a piece of the supply that is left, of the demand that is left, or a served window.
-use Prim.Native.Nat.{ℕ, _+_, _-_, _<_, _≤_}
-use mathlib.Core.Path.{_≡_, refl, sym, ap, _∙_}
+-- `fitting::Place::next` meets its contract: a piece of the supply that is left, of the demand that is left, or a served window.
+use Prim.Native.Nat.{_-_}
+use mathlib.Core.Path.{_≡_, refl}
 use native.Mathlib.Omega.{arith}
-use lib.ListN.{length}
 use Rattle.fitting.proofs.Stretches.{Ahead, ahead-at}
 use Rattle.fitting.proofs.Pieces.{supply-none, piece-done, piece-unwanted, piece-rest, piece-passed, piece-side, piece-served, piece-used}
 use borrow.Author.Needs.{needs}

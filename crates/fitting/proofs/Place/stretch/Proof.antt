@@ -1,6 +1,6 @@
--- `curves::fitting::Place::stretch` meets its contract. The loop's invariant is `Stretching`: up to `till` all is served in one stretch.
-use Prim.Native.Nat.{ℕ, _+_, _-_, _<_, _≤_}
-use mathlib.Core.Path.{_≡_, refl, sym, ap, _∙_}
+-- `fitting::Place::stretch` meets its contract. The loop's invariant is `Stretching`: up to `till` all is served in one stretch.
+use Prim.Native.Nat.{_-_}
+use mathlib.Core.Path.{_≡_, refl}
 use native.Mathlib.Omega.{arith}
 use lib.ListN.{length}
 use Rattle.fitting.proofs.Stretches.{Ahead, ahead-at, Stretching, stretching-first, stretching-whole, stretching-end, stretching-gap, stretching-over}

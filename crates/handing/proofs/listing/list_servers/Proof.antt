@@ -1,4 +1,4 @@
--- `exports::listing::list_servers` meets its contract: both numbers of each place are written.
+-- `handing::listing::list_servers` meets its contract: both numbers of each place are written.
 use Prim.Native.Nat.{ℕ, _-_, _≤_, _<_}
 use mathlib.Core.Path.{refl, sym, _∙_}
 use native.Mathlib.Omega.{arith}

@@ -1,4 +1,4 @@
--- `exports::listing::list_tasks` meets its contract: the four numbers of each place are written.
+-- `handing::listing::list_tasks` meets its contract: the four numbers of each place are written.
 use Prim.Native.Nat.{ℕ, _-_, _≤_, _<_}
 use mathlib.Core.Path.{sym, _∙_}
 use native.Mathlib.Omega.{arith}

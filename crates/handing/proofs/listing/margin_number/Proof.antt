@@ -1,4 +1,4 @@
--- `exports::listing::margin_number` meets its contract: the margin is what is read of its bits.
+-- `handing::listing::margin_number` meets its contract: the margin is what is read of its bits.
 use mathlib.Core.Path.{refl}
 use mir.Facts.{toZ-ofZ}
 use borrow.Author.Needs.{needs, sfits-of}

@@ -1,4 +1,4 @@
--- `exports::outcomes::hand_counts` meets its contract.
+-- `handing::outcomes::hand_counts` meets its contract.
 use mathlib.Core.Path.{refl}
 use borrow.Author.Needs.{needs}
 use Rattle.handing.proofs.outcomes.hand_counts.Statement.{statement}

@@ -1,4 +1,4 @@
--- `exports::tables::step_table` meets its contract: a step that is not refused is written back field by field.
+-- `handing::tables::step_table` meets its contract: a step that is not refused is written back field by field.
 use mathlib.Core.Path.{sym, ap, _∙_}
 use borrow.Author.Needs.{needs}
 use Rattle.machine.specs.declared.Stepped.{Stepped}

@@ -1,7 +1,6 @@
--- `scheduling::asking::covers` meets its contract: a walk along the windows.
+-- `judging::covering::covers` meets its contract: a walk along the windows.
 use Prim.Native.Nat.{_-_}
 use mathlib.Core.Path.{sym, _∙_}
-use native.Mathlib.Omega.{arith}
 use borrow.Author.Needs.{needs}
 use lib.ListN.{length}
 use Rattle.judging.proofs.Asked.{Ahead, ahead-all, ahead-odd, ahead-none, ahead-here, ahead-next}

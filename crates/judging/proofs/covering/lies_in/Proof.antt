@@ -1,7 +1,5 @@
--- `scheduling::asking::lies_in` meets its contract.
+-- `judging::covering::lies_in` meets its contract.
 use mathlib.Core.Path.{sym}
-use borrow.Author.Tests.{le-leb, lt-leb}
-use Rattle.windows.specs.Windows.{inside}
 use Rattle.judging.proofs.Asked.{lies-early, lies-late}
 use Rattle.judging.proofs.covering.lies_in.Statement.{statement}
 use Rattle.judging.proofs.covering.lies_in.Tie as tie

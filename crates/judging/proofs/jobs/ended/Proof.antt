@@ -1,4 +1,4 @@
--- `scheduling::judging::ended` meets its contract.
+-- `judging::jobs::ended` meets its contract.
 use mathlib.Core.Path.{_≡_, ap, _∙_}
 use native.Mathlib.Omega.{arith}
 use borrow.Author.Needs.{needs}

@@ -1,4 +1,4 @@
--- `judging::judge` meets its contract. The loop's invariant: the jobs before the release r are judged.
+-- `judging::jobs::judge` meets its contract. The loop's invariant: the jobs before the release r are judged.
 use Prim.Native.Nat.{_+_, _-_, _*_, _≤_}
 use mathlib.Core.Path.{sym, ap, _∙_}
 use native.Mathlib.Omega.{arith}

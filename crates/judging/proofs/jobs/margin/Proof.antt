@@ -1,4 +1,4 @@
--- `scheduling::judging::margin` meets its contract: neither number is above 16,000, so the difference fits.
+-- `judging::jobs::margin` meets its contract: neither number is above 16,000, so the difference fits.
 use mathlib.Core.Path.{_≡_}
 use native.Mathlib.Omega.{arith}
 use borrow.Author.Needs.{needs}

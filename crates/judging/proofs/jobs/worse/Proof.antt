@@ -1,4 +1,4 @@
--- `scheduling::judging::worse` meets its contract.
+-- `judging::jobs::worse` meets its contract.
 use borrow.Author.Tests.{le-ltb, lt-ltb}
 use Rattle.judging.proofs.jobs.worse.Statement.{statement}
 use Rattle.judging.proofs.jobs.worse.Tie as tie

@@ -1,4 +1,4 @@
--- `passing::pass_amount` meets its contract. The loop's invariant: the windows passed so far give less than the amount.
+-- `judging::passing::pass_amount` meets its contract. The loop's invariant: the windows passed so far give less than the amount.
 use Prim.Native.Nat.{_+_, _-_, _*_, _≤_, _<_}
 use native.Mathlib.Omega.{arith}
 use borrow.Author.Needs.{needs}

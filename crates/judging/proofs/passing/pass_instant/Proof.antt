@@ -1,4 +1,4 @@
--- `scheduling::passing::pass_instant` meets its contract. The loop's invariant: the windows passed end at the instant or before.
+-- `judging::passing::pass_instant` meets its contract. The loop's invariant: the windows passed end at the instant or before.
 use Prim.Native.Nat.{_+_, _-_, _*_}
 use native.Mathlib.Omega.{arith}
 use borrow.Author.Needs.{needs}

@@ -1,4 +1,4 @@
--- `scheduling::periods::answer_server` meets its contract.
+-- `judging::periods::answer_server` meets its contract.
 use native.Mathlib.Nat.{le-trans, div-mul-le-self}
 use borrow.Author.Needs.{needs}
 use Rattle.judging.proofs.periods.answer_server.Statement.{statement}

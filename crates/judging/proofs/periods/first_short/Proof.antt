@@ -1,4 +1,4 @@
--- `scheduling::periods::first_short` meets its contract: a walk along the periods.
+-- `judging::periods::first_short` meets its contract: a walk along the periods.
 use Prim.Native.Nat.{_-_}
 use borrow.Author.Needs.{needs}
 use Rattle.judging.proofs.ShortPeriods.{Looking, looking-starts, next-inside, ends-later, count-rises, looking-finds, looking-next, looking-ends}

@@ -1,4 +1,4 @@
--- `scheduling::periods::given_below` meets its contract.
+-- `judging::periods::given_below` meets its contract.
 use native.Mathlib.Omega.{arith}
 use borrow.Author.Needs.{needs}
 use Rattle.judging.proofs.Instants.{given-before, counted-all, counted-part}

@@ -1,15 +1,13 @@
 -- `machine::State::step` meets its contract: the parts of a tick in their order.
-use Prim.Native.Nat.{ℕ, _≤_}
 use mathlib.Core.Path.{_≡_, refl, sym, ap, _∙_}
 use mathlib.Core.Bool.{true}
-use native.Mathlib.Omega.{arith}
 use borrow.Author.Needs.{needs}
 use borrow.Author.Tests.{not-true, not-false}
 use lib.ListN.{length}
 use Rattle.table.proofs.Entries.{length-mapped}
 use Rattle.machine.specs.declared.State.{State}
-use Rattle.machine.specs.Machine.{refills, releases, ready, runnerOf, runs, spends, accepts, stepOf, overWork}
-use Rattle.table.specs.Places.{noneOf, Obeyed}
+use Rattle.machine.specs.Machine.{releases, ready, runnerOf, runs, spends, accepts, stepOf}
+use Rattle.table.specs.Places.{Obeyed}
 use Rattle.table.proofs.Obeyed.{obeyed-of, span-most}
 use Rattle.machine.proofs.Stepping.{accepted-rules, accepted-tick, accepted-work, holder-most, holder-has, first-runs, runner-most, runner-has, step-taken}
 use Rattle.machine.proofs.State.step.Statement.{statement}

@@ -1,15 +1,10 @@
 -- `machine::picking::first_tasks` meets its contract. The loop's invariant: each server's first task from place j on is noted.
-use Prim.Native.Nat.{ℕ, suc, _+_, _-_, _≤_, _<_}
-use mathlib.Core.Path.{_≡_, refl, sym, ap, subst, _∙_}
-use mathlib.Core.List.{List}
+use Prim.Native.Nat.{ℕ, _-_, _≤_}
+use mathlib.Core.Path.{_≡_, refl, _∙_}
 use native.Mathlib.Omega.{arith}
 use borrow.Author.Needs.{needs}
-use lib.ListN.{length, getD, set, replicate, getD-replicate, length-set}
+use lib.ListN.{length, getD, replicate, getD-replicate, length-set}
 use Rattle.table.specs.Rules.{noTask}
-use Rattle.table.specs.declared.Table.{Table}
-use Rattle.machine.specs.declared.State.{State}
-use Rattle.table.specs.Places.{Obeyed}
-use Rattle.machine.specs.Parts.{noted}
 use Rattle.table.proofs.Obeyed.{servers-most, tasks-most, task-server}
 use Rattle.machine.proofs.Noting.{NotedFrom, noted-none, noted-all, noted-turn}
 use Rattle.machine.proofs.picking.first_tasks.Statement.{statement}

@@ -1,5 +1,4 @@
 -- `machine::refusing::accepted` meets its contract, ground by ground.
-use Prim.Native.Nat.{ℕ}
 use mathlib.Core.Path.{_≡_, sym, _∙_}
 use mathlib.Core.Bool.{true}
 use native.Mathlib.Omega.{arith}

@@ -1,14 +1,12 @@
 -- `machine::releasing::falls_on` meets its contract, case by case.
-use Prim.Native.Nat.{ℕ, _≤_, _<_}
-use mathlib.Core.Path.{_≡_, refl, sym, _∙_}
+use Prim.Native.Nat.{ℕ, _<_}
+use mathlib.Core.Path.{_≡_, refl}
 use mathlib.Core.Bool.{true}
-use native.Mathlib.Omega.{arith}
 use lib.Dec.{leb}
 use borrow.Author.Needs.{needs}
 use borrow.Author.Tests.{lt-leb, le-leb, leb-true}
 use Rattle.basics.proofs.Tests.{and-left, and-right}
 use Rattle.table.specs.Rules.{releaseObeys, inTicks}
-use Rattle.table.specs.declared.Release.{Release}
 use Rattle.table.specs.declared.Release.the-variants.{Every}
 use Rattle.machine.proofs.releasing.falls_on.Statement.{statement}
 use Rattle.machine.proofs.releasing.falls_on.Tie as tie

@@ -1,7 +1,6 @@
 -- `machine::releasing::release` meets its contract. The loop's invariant: the first j tasks have gained, and nothing else has changed.
 use Prim.Native.Nat.{ℕ, _+_, _-_, _≤_, _<_}
-use mathlib.Core.Path.{_≡_, refl, sym, ap, _∙_}
-use mathlib.Core.List.{List}
+use mathlib.Core.Path.{_≡_, refl, ap, _∙_}
 use mathlib.Core.Bool.{true}
 use native.Mathlib.Omega.{arith}
 use borrow.Author.Needs.{needs}
@@ -10,7 +9,6 @@ use lib.ListN.{length, getD, take}
 use Rattle.table.specs.Rules.{noTask}
 use Rattle.table.specs.declared.Task.{Task}
 use Rattle.machine.specs.Machine.{along, gained, overWork}
-use Rattle.table.specs.Releases.{gains}
 use Rattle.table.specs.Places.{noneOf}
 use Rattle.machine.specs.declared.State.{State}
 use Rattle.machine.proofs.Beside.{along-stores, along-next}

@@ -1,10 +1,7 @@
 -- `machine::running::spend` meets its contract.
 use Prim.Native.Nat.{_-_}
-use mathlib.Core.Path.{sym, ap}
-use mathlib.Core.List.{List}
 use native.Mathlib.Omega.{arith}
 use borrow.Author.Needs.{needs}
-use Rattle.machine.specs.declared.State.{State}
 use Rattle.machine.proofs.Beside.{less-none, less-is}
 use Rattle.machine.proofs.running.spend.Statement.{statement}
 use Rattle.machine.proofs.running.spend.Tie as tie

@@ -1,7 +1,6 @@
 -- `table::euclid::gcd` meets its contract: Euclid's rule, and the second number falls.
-use mathlib.Core.Path.{_≡_, refl, subst}
+use mathlib.Core.Path.{_≡_, refl}
 use native.Mathlib.Nat.{pos-of-ne-zero, mod-lt}
-use Prim.Native.Nat.{_%_}
 use Rattle.table.proofs.Divisors.{gcd-zero, gcd-rule}
 use Prim.Native.Nat.{ℕ, _<_}
 use borrow.Fn.Kinds.{In}

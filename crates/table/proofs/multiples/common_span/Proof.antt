@@ -1,7 +1,5 @@
 -- `table::multiples::common_span` meets its contract: the periods of all servers and tasks, one after the other.
 use mathlib.Core.Path.{_≡_, refl}
-use Prim.Native.Nat.{_≤_}
-use native.Mathlib.Omega.{arith}
 use Rattle.table.proofs.Spans.{joins-both, joined-all}
 use borrow.Author.Needs.{needs}
 use Rattle.table.proofs.multiples.common_span.Statement.{statement}

@@ -1,5 +1,5 @@
 -- `table::rules::release_obeys` meets its contract, by the cases of a release.
-use mathlib.Core.Path.{_≡_, refl, sym, _∙_}
+use mathlib.Core.Path.{_≡_, refl}
 use borrow.Author.Tests.{le-leb, lt-leb}
 use borrow.Author.Needs.{needs}
 use Rattle.table.proofs.rules.release_obeys.Statement.{statement}

@@ -1,6 +1,5 @@
 -- `table::rules::server_obeys` meets its contract.
 use mathlib.Core.Path.{_≡_, refl, sym, _∙_}
-use mathlib.Core.Bool.{true, false}
 use borrow.Author.Tests.{not-true, not-false}
 use borrow.Author.Needs.{needs}
 use Rattle.table.proofs.rules.server_obeys.Statement.{statement}

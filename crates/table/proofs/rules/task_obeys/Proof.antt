@@ -1,7 +1,6 @@
 -- `table::rules::task_obeys` meets its contract.
-use Prim.Native.Nat.{ℕ, _≤_}
 use mathlib.Core.Path.{_≡_, refl, sym, _∙_}
-use mathlib.Core.Bool.{true, false, _&&_}
+use mathlib.Core.Bool.{true}
 use borrow.Author.Tests.{not-true, not-false, le-leb, lt-leb}
 use Rattle.table.specs.Rules.{between}
 use borrow.Author.Needs.{needs}

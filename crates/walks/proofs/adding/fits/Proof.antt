@@ -1,8 +1,7 @@
--- `curves::adding::fits` meets its contract. The loop's invariant: the room that is free and the windows before the walk make up the
+-- `walks::adding::fits` meets its contract. The loop's invariant: the room that is free and the windows before the walk make up the
 -- room lent and the whole sum, which ends in time if those do.
-use Prim.Native.Nat.{ℕ, _+_, _<_, _≤_}
-use mathlib.Core.Path.{_≡_, refl, sym, ap, _∙_}
-use mathlib.Core.Bool.{true, false, _&&_, and-false}
+use mathlib.Core.Path.{_≡_, refl, ap, _∙_}
+use mathlib.Core.Bool.{and-false}
 use native.Mathlib.Omega.{arith}
 use borrow.Author.Tests.{lt-leb}
 use lib.ListN.{length}

@@ -1,8 +1,8 @@
--- `curves::adding::write` meets its contract. The loop's invariant: what is written and what the walk has before it are together the
+-- `walks::adding::write` meets its contract. The loop's invariant: what is written and what the walk has before it are together the
 -- whole sum, and that ends in time.
-use Prim.Native.Nat.{ℕ, _+_, _<_, _≤_}
+use Prim.Native.Nat.{_+_, _<_, _≤_}
 use mathlib.Core.Path.{_≡_, refl, sym, ap, _∙_}
-use mathlib.Core.Bool.{true, false, _&&_}
+use mathlib.Core.Bool.{true}
 use native.Mathlib.Omega.{arith}
 use borrow.Author.Tests.{leb-true}
 use lib.ListN.{length}

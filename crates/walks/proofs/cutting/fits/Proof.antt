@@ -1,7 +1,6 @@
--- `curves::cutting::fits` meets its contract. The loop's invariant: the room that is free and the pieces before the walk make up the
+-- `walks::cutting::fits` meets its contract. The loop's invariant: the room that is free and the pieces before the walk make up the
 -- room lent and the whole cut.
-use Prim.Native.Nat.{ℕ, _+_, _<_, _≤_}
-use mathlib.Core.Path.{_≡_, refl, sym, ap, _∙_}
+use mathlib.Core.Path.{_≡_, refl, ap}
 use native.Mathlib.Omega.{arith}
 use lib.ListN.{length}
 use Rattle.windows.specs.Windows.{cutAt}

@@ -1,7 +1,7 @@
--- `curves::cutting::write` meets its contract. The loop's invariant: what is written and what the walk has before it are together the
+-- `walks::cutting::write` meets its contract. The loop's invariant: what is written and what the walk has before it are together the
 -- whole cut.
-use Prim.Native.Nat.{ℕ, _+_, _<_, _≤_}
-use mathlib.Core.Path.{_≡_, refl, sym, ap, _∙_}
+use Prim.Native.Nat.{_+_, _<_}
+use mathlib.Core.Path.{_≡_, refl, ap}
 use native.Mathlib.Omega.{arith}
 use lib.ListN.{length}
 use Rattle.windows.specs.Windows.{cutAt}

@@ -1,11 +1,10 @@
--- `curves::adding::Both::next` meets its contract. The loop's invariant: the open window and what is left of both curves grow to what
+-- `walks::adding::Both::next` meets its contract. The loop's invariant: the open window and what is left of both curves grow to what
 -- the first window and what was left behind it do.
-use Prim.Native.Nat.{ℕ, _+_, _<_, _≤_}
 use mathlib.Core.Path.{_≡_, refl, sym, ap, _∙_}
 use native.Mathlib.Omega.{arith}
 use lib.ListN.{length}
 use Rattle.windows.specs.Walks.{grow, grown}
-use Rattle.walks.specs.Steps.{mergeAhead, sumAhead, InBoth, Takes, Sums}
+use Rattle.walks.specs.Steps.{mergeAhead, sumAhead, Takes}
 use Rattle.walks.proofs.Sums.{Open, open-first, open-end, open-gap, open-more, open-over}
 use borrow.Author.Needs.{needs}
 use Rattle.walks.proofs.adding.Both.next.Statement.{statement}

@@ -1,9 +1,6 @@
--- `curves::adding::Both::take` meets its contract: by which curve has the next window.
-use Prim.Native.Nat.{ℕ, _+_, _<_}
+-- `walks::adding::Both::take` meets its contract: by which curve has the next window.
 use native.Mathlib.Omega.{arith}
-use native.Mathlib.Nat.{le-refl}
-use lib.ListN.{length, getD, drop}
-use Rattle.windows.proofs.Turns.{Turn, plain-turn}
+use Rattle.windows.proofs.Turns.{plain-turn}
 use Rattle.walks.proofs.Sums.{above-end, above-at, apart-end, apart-at, take-right, take-left, take-none}
 use borrow.Author.Needs.{needs}
 use Rattle.walks.proofs.adding.Both.take.Statement.{statement}

@@ -1,9 +1,9 @@
--- `curves::cutting::Cut::next` meets its contract: a step gives the first piece of what the walk has before it, and the walk behind that piece.
-use Prim.Native.Nat.{ℕ, _+_, _<_, max}
-use mathlib.Core.Path.{_≡_, refl, sym, _∙_}
+-- `walks::cutting::Cut::next` meets its contract: a step gives the first piece of what the walk has before it, and the walk behind that piece.
+use Prim.Native.Nat.{_+_, _<_, max}
+use mathlib.Core.Path.{_≡_, refl}
 use native.Mathlib.Omega.{arith}
 use native.Mathlib.Nat.{mod-lt}
-use lib.ListN.{length, getD, drop, drop-of-length-le}
+use lib.ListN.{getD, drop-of-length-le}
 use Rattle.windows.specs.Walks.{cutFrom}
 use Rattle.windows.proofs.Turns.{Turn, plain-turn, drop-pair}
 use Rattle.windows.proofs.Cutting.{cut-inside, cut-over}
