@@ -2,14 +2,14 @@
 use Prim.Native.Nat.{ℕ, zero, suc, _+_, _-_, _*_, _^_, _≤_, _<_}
 use mathlib.Core.Path.{_≡_, refl, sym, ap, _∙_}
 use mathlib.Core.List.{List, [], _∷_}
-use mathlib.Core.Bool.{Bool, true, false, _&&_, and-false}
+use mathlib.Core.Bool.{true, false, _&&_, and-false}
 use native.Mathlib.Numerals.{add-one}
 use native.Mathlib.Nat.{pow-suc}
 use native.Mathlib.Omega.{arith}
 use lib.ListN.{length, getD, drop, drop-of-length-le}
 use lib.Seq.{drop-cons}
 use lib.Dec.{eqb, leb}
-use borrow.Author.Tests.{leb-true, lt-leb, le-leb}
+use borrow.Author.Tests.{leb-true}
 use Rattle.basics.proofs.Tests.{and-left, and-right}
 use Rattle.table.specs.Rules.{all}
 use Rattle.fields.specs.Fields.{sameBytes, isDigit, digitsFrom}

@@ -6,7 +6,6 @@ use lib.ListN.{length, getD}
 use lib.Dec.{ltb, leb, eqb}
 use Rattle.basics.specs.Choice.{pick}
 use Rattle.table.specs.Rules.{all, between}
-use Rattle.refusals.specs.declared.Ground.{Ground}
 use Rattle.refusals.specs.declared.Ground.the-variants.{Empty, Dash, NoDigit, LeadingZero, TooManyDigits}
 use Rattle.fields.specs.declared.Word.{Word}
 use Rattle.fields.specs.declared.Word.the-variants as word

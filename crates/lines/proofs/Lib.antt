@@ -1,1 +1,1 @@
-pub mod Spoken
+pub mod Passing

@@ -10,8 +10,8 @@ use Rattle.table.specs.declared.Kind.{Kind}
 use Rattle.table.specs.declared.Kind.the-variants.{Deferrable, Periodic}
 use Rattle.table.specs.declared.Release.{Release}
 use Rattle.table.specs.declared.Release.the-variants as release
+use Rattle.table.specs.declared.Task.{Task}
 use Rattle.fields.specs.Fields.{fieldsOf, fieldAt, sameBytes, deferrableWord, periodicWord, dash, wordOf, fieldNumber}
-use Rattle.refusals.specs.declared.Ground.{Ground}
 use Rattle.refusals.specs.declared.Ground.the-variants.{Misplaced, TooMany, FieldCount, Empty, UnknownKind, OutOfRange}
 use Rattle.fields.specs.declared.Word.{Word}
 use Rattle.fields.specs.declared.Word.the-variants as word
@@ -31,15 +31,21 @@ field (number.Bad what) place next = Wrong what place
 abbrev pub ranged : Bool → ℕ → Line → Line
 ranged ok place next = pick ok next (Wrong OutOfRange place)
 
+-- the number at a place
+abbrev pub numberAt : List ℕ → ℕ → (ℕ → Line) → Line
+numberAt line place next = field (fieldNumber (fieldAt line place)) place next
+
+-- the numbers at two places
+abbrev pub numbersAt : List ℕ → ℕ → ℕ → (ℕ → ℕ → Line) → Line
+numbersAt line first second next = numberAt line first (λ a. numberAt line second (λ b. next a b))
+
 -- 4: "wrong count of fields"
 abbrev pub counted : List ℕ → ℕ → Line → Line
 counted line n next = pick (eqb (length (fieldsOf line)) n) next (Wrong FieldCount 0)
 
 -- `span`: "ticks H, or `-`", which is 0 until all periods are known
 abbrev pub spanLine : List ℕ → Line
-spanLine line =
-    counted line 2
-    (pick (sameBytes (fieldAt line 2) dash) (SpanIs 0) (field (fieldNumber (fieldAt line 2)) 2 (λ h. ranged (inTicks h) 2 (SpanIs h))))
+spanLine line = counted line 2 (pick (sameBytes (fieldAt line 2) dash) (SpanIs 0) (numberAt line 2 (λ h. ranged (inTicks h) 2 (SpanIs h))))
 
 -- "`deferrable` or `periodic`"
 abbrev pub kindOf : List ℕ → KindField
@@ -56,44 +62,46 @@ abbrev pub serverIs : Kind → ℕ → ℕ → Line
 serverIs k c t = ranged (inTicks c && leb c t) 3 (ranged (inTicks t) 4 (ServerIs (record { kind = k; capacity = c; period = t })))
 
 abbrev pub serverLine : List ℕ → Line
-serverLine line =
-    counted line 4
-    (kindField (kindOf (fieldAt line 2)) 2
-    (λ k. field (fieldNumber (fieldAt line 3)) 3 (λ c. field (fieldNumber (fieldAt line 4)) 4 (λ t. serverIs k c t))))
+serverLine line = counted line 4 (kindField (kindOf (fieldAt line 2)) 2 (λ k. numbersAt line 3 4 (λ c t. serverIs k c t)))
 
--- `once`: "server, work, instant, deadline"; "server 1 to the number of servers"
-abbrev pub onceIs : ℕ → ℕ → ℕ → ℕ → ℕ → Line
-onceIs servers s w i d =
-    ranged (between 1 servers s) 2
-    (ranged (inTicks w) 3
-    (ranged (leb i 16000) 4 (ranged (inTicks d) 5 (TaskIs (record { server = s; work = w; release = release.Once i; deadline = d })))))
+-- ---- task lines
 
+-- "server, work": every task line starts with them, and they are read first
+abbrev pub serverAndWork : List ℕ → (ℕ → ℕ → Line) → Line
+serverAndWork line next = numbersAt line 2 3 next
+
+-- a task whose deadline, at its place, is the last to be tested: "deadline 1 to 16,000"
+abbrev pub dueAt : ℕ → Task → Line
+dueAt place k = ranged (inTicks (k .deadline)) place (TaskIs k)
+
+-- what stands behind server and work: "instant, deadline", or "offset, period, deadline"
+abbrev pub releaseIs : Release → Task → Line
+releaseIs (release.Once i) k = ranged (leb i 16000) 4 (dueAt 5 k)
+releaseIs (release.Every o p) k = ranged (leb o 16000) 4 (ranged (inTicks p) 5 (dueAt 6 k))
+
+-- the ranges of a task, from the left: "server 1 to the number of servers", work, then those of its release
+abbrev pub taskIs : ℕ → Task → Line
+taskIs servers k = ranged (between 1 servers (k .server)) 2 (ranged (inTicks (k .work)) 3 (releaseIs (k .release) k))
+
+-- `once`: "server, work, instant, deadline"
 abbrev pub onceLine : ℕ → List ℕ → Line
 onceLine servers line =
     counted line 5
-    (field (fieldNumber (fieldAt line 2)) 2
-    (λ s. field (fieldNumber (fieldAt line 3)) 3
-    (λ w. field (fieldNumber (fieldAt line 4)) 4 (λ i. field (fieldNumber (fieldAt line 5)) 5 (λ d. onceIs servers s w i d)))))
+    (serverAndWork line (λ s w. numbersAt line 4 5 (λ i d. taskIs servers (record { server = s; work = w; release = release.Once i; deadline = d }))))
 
 -- "`-` in an `every` line means that the deadline is the period"
 abbrev pub deadlineOf : List ℕ → ℕ → Number
 deadlineOf f period = pick (sameBytes f dash) (number.Value period) (fieldNumber f)
 
 -- `every`: "server, work, offset, period, deadline or `-`"
-abbrev pub everyIs : ℕ → ℕ → ℕ → ℕ → ℕ → ℕ → Line
-everyIs servers s w o p d =
-    ranged (between 1 servers s) 2
-    (ranged (inTicks w) 3
-    (ranged (leb o 16000) 4
-    (ranged (inTicks p) 5 (ranged (inTicks d) 6 (TaskIs (record { server = s; work = w; release = release.Every o p; deadline = d }))))))
-
 abbrev pub everyLine : ℕ → List ℕ → Line
 everyLine servers line =
     counted line 6
-    (field (fieldNumber (fieldAt line 2)) 2
-    (λ s. field (fieldNumber (fieldAt line 3)) 3
-    (λ w. field (fieldNumber (fieldAt line 4)) 4
-    (λ o. field (fieldNumber (fieldAt line 5)) 5 (λ p. field (deadlineOf (fieldAt line 6) p) 6 (λ d. everyIs servers s w o p d))))))
+    (serverAndWork line (λ s w.
+    numbersAt line 4 5 (λ o p.
+    field (deadlineOf (fieldAt line 6) p) 6 (λ d. taskIs servers (record { server = s; work = w; release = release.Every o p; deadline = d })))))
+
+-- ---- by the first word
 
 -- 3: "first field unknown or in the wrong place", "First `span`, then servers, then tasks"
 abbrev pub placed : Bool → Line → Line
@@ -103,12 +111,16 @@ placed ok next = pick ok next (Wrong Misplaced 0)
 abbrev pub fewer : Bool → Line → Line
 fewer ok next = pick ok next (Wrong TooMany 0)
 
+-- a task line stands behind a server: "as a task line before any server line"
+abbrev pub taskPlaced : ℕ → ℕ → Line → Line
+taskPlaced servers tasks next = placed (ltb 0 servers) (fewer (ltb tasks 64) next)
+
 -- line n, behind so many servers and tasks
 abbrev pub byWord : Word → ℕ → ℕ → ℕ → List ℕ → Line
 byWord word.Span n servers tasks line = placed (eqb n 1) (spanLine line)
 byWord word.Server n servers tasks line = placed (ltb 1 n && eqb tasks 0) (fewer (ltb servers 16) (serverLine line))
-byWord word.Once n servers tasks line = placed (ltb 0 servers) (fewer (ltb tasks 64) (onceLine servers line))
-byWord word.Every n servers tasks line = placed (ltb 0 servers) (fewer (ltb tasks 64) (everyLine servers line))
+byWord word.Once n servers tasks line = taskPlaced servers tasks (onceLine servers line)
+byWord word.Every n servers tasks line = taskPlaced servers tasks (everyLine servers line)
 byWord word.Unknown n servers tasks line = Wrong Misplaced 0
 
 abbrev pub lineOf : ℕ → ℕ → ℕ → List ℕ → Line

@@ -1,6 +1,6 @@
 -- Whatever is accepted meets the rules of a table; and when the numbers 1, 2 and 8 are given. Assumes nothing.
 use Prim.Native.Nat.{ℕ, _+_, _-_, _≤_, _<_}
-use mathlib.Core.Path.{_≡_, refl, sym, ap, _∙_}
+use mathlib.Core.Path.{_≡_, refl, sym, _∙_}
 use mathlib.Core.List.{List, [], _∷_}
 use mathlib.Core.Bool.{Bool, true, false, _&&_}
 use native.Mathlib.Omega.{arith}
@@ -9,7 +9,7 @@ use lib.Dec.{ltb, leb, eqb}
 use borrow.Author.Tests.{ltb-true, eqb-false, le-leb, lt-leb}
 use Rattle.basics.specs.Choice.{pick}
 use Rattle.basics.proofs.Tests.{and-left, and-right}
-use Rattle.table.specs.Rules.{all, between, inTicks, serverObeys, taskObeys, obeys, serversOf, tasksOf}
+use Rattle.table.specs.Rules.{between, obeys, serversOf, tasksOf}
 use Rattle.table.specs.Span.{periodsOf, spanOf}
 use Rattle.table.proofs.Spans.{SearchSays, span-says}
 use Rattle.table.specs.declared.Table.{Table}

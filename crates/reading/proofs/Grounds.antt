@@ -1,5 +1,5 @@
 -- Why a text is refused: the ways in which a reading comes about, and the ground of each wrong line. Assumes nothing.
-use Prim.Native.Nat.{ℕ, _+_, _-_, _≤_, _<_}
+use Prim.Native.Nat.{ℕ, _+_, _-_}
 use mathlib.Core.Path.{_≡_, refl, sym, ap, subst, _∙_}
 use mathlib.Core.Logic.{_⊎_, inl, inr}
 use mathlib.Core.List.{List, [], _∷_}
@@ -11,12 +11,14 @@ use Rattle.basics.specs.Choice.{pick}
 use Rattle.table.specs.Rules.{all, between, inTicks, serversOf, tasksOf}
 use Rattle.table.specs.Span.{periodsOf, spanOf}
 use Rattle.table.specs.declared.Table.{Table}
+use Rattle.table.specs.declared.Task.{Task}
+use Rattle.table.specs.declared.Release.the-variants as release
 use Rattle.table.specs.declared.Kind.{Kind}
 use Rattle.table.specs.declared.Kind.the-variants.{Deferrable, Periodic}
 use Rattle.table.specs.declared.Span.{Span}
 use Rattle.table.specs.declared.Span.the-variants.{Ticks, Over}
 use Rattle.fields.specs.Fields.{fieldsOf, fieldAt, sameBytes, dash, deferrableWord, periodicWord, wordOf, isDigit, digitsFrom, startsWithZero, fieldNumber}
-use Rattle.lines.specs.Lines.{field, ranged, counted, spanLine, kindOf, kindField, serverIs, serverLine, onceIs, onceLine, deadlineOf, everyIs, everyLine, byWord, lineOf}
+use Rattle.lines.specs.Lines.{field, ranged, numberAt, numbersAt, counted, kindOf, kindField, serverIs, releaseIs, taskIs, deadlineOf, taskPlaced, byWord, lineOf}
 use Rattle.reading.specs.Reading.{refusal, accepted, withSpan, resolved, endedOf, afterLine, readLines}
 use Rattle.reading.specs.Pieces.{withLine, goesOn}
 use Rattle.refusals.specs.declared.Ground.{Ground}
@@ -206,6 +208,11 @@ module _ (w : Word) (n servers tasks : ℕ) (line : List ℕ) where
   at-place : Counted → (place : ℕ) (next : ℕ → Line) → ((v : ℕ) → fieldNumber (fieldAt line place) ≡ number.Value v → Grounded (next v)) → Grounded (field (fieldNumber (fieldAt line place)) place next)
   at-place c place next h = number-ground c place (fieldNumber (fieldAt line place)) refl (number-of (fieldAt line place)) next h
 
+  pair-ground : Counted → (first second : ℕ) (next : ℕ → ℕ → Line)
+      → ((a b : ℕ) → fieldNumber (fieldAt line first) ≡ number.Value a → fieldNumber (fieldAt line second) ≡ number.Value b → Grounded (next a b))
+      → Grounded (numbersAt line first second next)
+  pair-ground c first second next h = at-place c first _ (λ a e. at-place c second _ (λ b f. h a b e f))
+
   kind-ground : Counted → (x : KindField) → kindOf (fieldAt line 2) ≡ x → KindsOf x → (next : Kind → Line) → ((k : Kind) → Grounded (next k)) → Grounded (kindField x 2 next)
   kind-ground c (kind.Is k) e o next h = h k
   kind-ground c (kind.Bad x) e o next h = field-ground 2 o (record { counted = c; field = inr e })
@@ -224,6 +231,11 @@ module _ (w : Word) (n servers tasks : ℕ) (line : List ℕ) where
   range-ground c true place next o h = h
   range-ground c false place next o h = (c, o refl)
 
+  -- server and work of a task, and what its release says
+  task-ground : Counted → (k : Task) → fieldNumber (fieldAt line 2) ≡ number.Value (k .server) → fieldNumber (fieldAt line 3) ≡ number.Value (k .work)
+      → Grounded (releaseIs (k .release) k) → Grounded (taskIs servers k)
+  task-ground c k e f h = range-ground c (between 1 servers (k .server)) 2 _ (server-out e) (range-ground c (inTicks (k .work)) 3 _ (work-out f) h)
+
   count-ground : (k : ℕ) → fieldCount w ≡ k → inPlace w n servers tasks ≡ true → hasRoom w servers tasks ≡ true → (next : Line) → (Counted → Grounded next) → Grounded (counted line k next)
   count-ground k e p r next h = go (eqb (length (fieldsOf line)) k) refl
     where
@@ -239,6 +251,12 @@ module _ (w : Word) (n servers tasks : ℕ) (line : List ℕ) where
   room-ground true p e next h = h refl
   room-ground false p e next h = (p, e)
 
+  -- a task line behind a server
+  placed-ground : inPlace w n servers tasks ≡ ltb 0 servers → hasRoom w servers tasks ≡ ltb tasks 64 → (k : ℕ) → fieldCount w ≡ k → (next : Line)
+      → (Counted → Grounded next) → Grounded (taskPlaced servers tasks (counted line k next))
+  placed-ground p r k e next h =
+      place-ground (ltb 0 servers) p _ (λ f. room-ground (ltb tasks 64) (p ∙ f) r _ (λ g. count-ground k e (p ∙ f) (r ∙ g) next h))
+
 -- ---- each kind of line
 
 module _ (n servers tasks : ℕ) (line : List ℕ) where
@@ -247,10 +265,10 @@ module _ (n servers tasks : ℕ) (line : List ℕ) where
   At place v = fieldNumber (fieldAt line place) ≡ number.Value v
 
   span-ground : Counted word.Span n servers tasks line → Grounded word.Span n servers tasks line
-      (pick (sameBytes (fieldAt line 2) dash) (SpanIs 0) (field (fieldNumber (fieldAt line 2)) 2 (λ h. ranged (inTicks h) 2 (SpanIs h))))
+      (pick (sameBytes (fieldAt line 2) dash) (SpanIs 0) (numberAt line 2 (λ h. ranged (inTicks h) 2 (SpanIs h))))
   span-ground c = go (sameBytes (fieldAt line 2) dash)
     where
-      go : (b : Bool) → Grounded word.Span n servers tasks line (pick b (SpanIs 0) (field (fieldNumber (fieldAt line 2)) 2 (λ h. ranged (inTicks h) 2 (SpanIs h))))
+      go : (b : Bool) → Grounded word.Span n servers tasks line (pick b (SpanIs 0) (numberAt line 2 (λ h. ranged (inTicks h) 2 (SpanIs h))))
       go true = tt
       go false = at-place word.Span n servers tasks line c 2 _ (λ h e. range-ground word.Span n servers tasks line c (inTicks h) 2 (SpanIs h) (span-out e) tt)
 
@@ -258,22 +276,6 @@ module _ (n servers tasks : ℕ) (line : List ℕ) where
   server-ground x k c t e f =
       range-ground word.Server n servers tasks line x (inTicks c && leb c t) 3 _ (capacity-out e f)
       (range-ground word.Server n servers tasks line x (inTicks t) 4 _ (server-period-out f) tt)
-
-  once-ground : Counted word.Once n servers tasks line → (s w i d : ℕ) → At 2 s → At 3 w → At 4 i → At 5 d → Grounded word.Once n servers tasks line (onceIs servers s w i d)
-  once-ground x s w i d a b c e =
-      range-ground word.Once n servers tasks line x (between 1 servers s) 2 _ (server-out a)
-      (range-ground word.Once n servers tasks line x (inTicks w) 3 _ (work-out b)
-      (range-ground word.Once n servers tasks line x (leb i 16000) 4 _ (instant-out c)
-      (range-ground word.Once n servers tasks line x (inTicks d) 5 _ (once-deadline-out e) tt)))
-
-  every-ground : Counted word.Every n servers tasks line → (s w o p d : ℕ) → At 2 s → At 3 w → At 4 o → At 5 p → deadlineOf (fieldAt line 6) p ≡ number.Value d
-      → Grounded word.Every n servers tasks line (everyIs servers s w o p d)
-  every-ground x s w o p d a b c e f =
-      range-ground word.Every n servers tasks line x (between 1 servers s) 2 _ (server-out a)
-      (range-ground word.Every n servers tasks line x (inTicks w) 3 _ (work-out b)
-      (range-ground word.Every n servers tasks line x (leb o 16000) 4 _ (instant-out c)
-      (range-ground word.Every n servers tasks line x (inTicks p) 5 _ (period-out e)
-      (range-ground word.Every n servers tasks line x (inTicks d) 6 _ (deadline-out p f) tt))))
 
   word-ground : (w : Word) → Grounded w n servers tasks line (byWord w n servers tasks line)
   word-ground word.Span =
@@ -283,23 +285,23 @@ module _ (n servers tasks : ℕ) (line : List ℕ) where
       room-ground word.Server n servers tasks line (ltb servers 16) p refl _ (λ r.
       count-ground word.Server n servers tasks line 4 refl p r _ (λ x.
       kind-ground word.Server n servers tasks line x (kindOf (fieldAt line 2)) refl (kinds-of word.Server n servers tasks line (fieldAt line 2)) _ (λ k.
-      at-place word.Server n servers tasks line x 3 _ (λ c e. at-place word.Server n servers tasks line x 4 _ (λ t f. server-ground x k c t e f))))))
+      pair-ground word.Server n servers tasks line x 3 4 _ (λ c t e f. server-ground x k c t e f)))))
   word-ground word.Once =
-      place-ground word.Once n servers tasks line (ltb 0 servers) refl _ (λ p.
-      room-ground word.Once n servers tasks line (ltb tasks 64) p refl _ (λ r.
-      count-ground word.Once n servers tasks line 5 refl p r _ (λ x.
-      at-place word.Once n servers tasks line x 2 _ (λ s a.
-      at-place word.Once n servers tasks line x 3 _ (λ w b.
-      at-place word.Once n servers tasks line x 4 _ (λ i c. at-place word.Once n servers tasks line x 5 _ (λ d e. once-ground x s w i d a b c e)))))))
+      placed-ground word.Once n servers tasks line refl refl 5 refl _ (λ x.
+      pair-ground word.Once n servers tasks line x 2 3 _ (λ s w a b.
+      pair-ground word.Once n servers tasks line x 4 5 _ (λ i d c e.
+      task-ground word.Once n servers tasks line x (record { server = s; work = w; release = release.Once i; deadline = d }) a b
+      (range-ground word.Once n servers tasks line x (leb i 16000) 4 _ (instant-out c)
+      (range-ground word.Once n servers tasks line x (inTicks d) 5 _ (once-deadline-out e) tt)))))
   word-ground word.Every =
-      place-ground word.Every n servers tasks line (ltb 0 servers) refl _ (λ p.
-      room-ground word.Every n servers tasks line (ltb tasks 64) p refl _ (λ r.
-      count-ground word.Every n servers tasks line 6 refl p r _ (λ x.
-      at-place word.Every n servers tasks line x 2 _ (λ s a.
-      at-place word.Every n servers tasks line x 3 _ (λ w b.
-      at-place word.Every n servers tasks line x 4 _ (λ o c.
-      at-place word.Every n servers tasks line x 5 _ (λ q e.
-      or-dash word.Every n servers tasks line x 6 q _ (λ d f. every-ground x s w o q d a b c e f))))))))
+      placed-ground word.Every n servers tasks line refl refl 6 refl _ (λ x.
+      pair-ground word.Every n servers tasks line x 2 3 _ (λ s w a b.
+      pair-ground word.Every n servers tasks line x 4 5 _ (λ o p c e.
+      or-dash word.Every n servers tasks line x 6 p _ (λ d f.
+      task-ground word.Every n servers tasks line x (record { server = s; work = w; release = release.Every o p; deadline = d }) a b
+      (range-ground word.Every n servers tasks line x (leb o 16000) 4 _ (instant-out c)
+      (range-ground word.Every n servers tasks line x (inTicks p) 5 _ (period-out e)
+      (range-ground word.Every n servers tasks line x (inTicks d) 6 _ (deadline-out p f) tt)))))))
   word-ground word.Unknown = refl
 
   -- a line is refused on its stated ground and on no other

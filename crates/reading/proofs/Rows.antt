@@ -1,28 +1,30 @@
 -- Line after line: what a line can say, that the table stays within its rules, and where the next line starts. Assumes nothing.
 use Prim.Native.Nat.{ℕ, zero, suc, _+_, _-_, _≤_, _<_}
-use mathlib.Core.Path.{_≡_, refl, sym, ap, _∙_}
+use mathlib.Core.Path.{_≡_, refl, sym, ap, subst, _∙_}
 use mathlib.Core.List.{List, [], _∷_, _++_}
 use mathlib.Core.Bool.{Bool, true, false, _&&_}
 use native.Mathlib.Numerals.{add-one}
 use native.Mathlib.Omega.{arith}
-use native.Mathlib.Decide.{decLt}
-use lib.ListN.{length, getD, take, drop, set, length-drop, length-set, drop-of-length-le}
+use lib.ListN.{length, getD, take, drop, set, length-drop, length-set}
 use lib.Seq.{take-suc-set, getD-drop}
 use lib.Dec.{ltb, leb, eqb}
-use borrow.Author.Tests.{ltb-true, leb-true, eqb-true, eq-eqb, ne-eqb}
+use borrow.Author.Tests.{ltb-true, leb-true, eqb-true, eq-eqb}
 use Rattle.basics.specs.Choice.{pick}
 use Rattle.basics.proofs.Tests.{and-left, and-right}
-use Rattle.table.specs.Rules.{all, between, inTicks, serverObeys, releaseObeys, taskObeys, serversOf, tasksOf}
+use Rattle.table.specs.Rules.{all, between, inTicks, serverObeys, taskObeys, serversOf, tasksOf}
 use Rattle.table.specs.declared.Server.{Server}
 use Rattle.table.specs.declared.Task.{Task}
 use Rattle.table.specs.declared.Table.{Table}
 use Rattle.table.specs.declared.Kind.{Kind}
+use Rattle.table.specs.declared.Release.{Release}
+use Rattle.table.specs.declared.Release.the-variants as release
 use Rattle.fields.specs.Fields.{split, allButLast, linesOf, fieldsOf, fieldAt, sameBytes, dash, wordOf, fieldNumber}
-use Rattle.lines.specs.Lines.{field, ranged, counted, spanLine, kindOf, kindField, serverIs, serverLine, onceIs, onceLine, deadlineOf, everyIs, everyLine, placed, fewer, byWord, lineOf}
-use Rattle.reading.specs.Reading.{noTable, withSpan, withServer, withTask, endedOf, afterLine, readLines}
+use Rattle.lines.specs.Lines.{field, ranged, numberAt, numbersAt, spanLine, kindOf, kindField, serverLine, releaseIs, taskIs, onceLine, deadlineOf, everyLine, taskPlaced, byWord, lineOf}
+use Rattle.reading.specs.Reading.{noTable, refusal, withServer, endedOf, afterLine, readLines}
 use Rattle.reading.specs.declared.Reading.{Reading}
 use Rattle.fields.specs.Pieces.{firstLength}
-use Rattle.reading.specs.Pieces.{Room, withLine, goesOn, refusedLine, Feeds}
+use Rattle.reading.specs.Pieces.{withLine, goesOn, Feeds}
+use Rattle.refusals.specs.declared.Ground.{Ground}
 use Rattle.fields.specs.declared.Word.{Word}
 use Rattle.fields.specs.declared.Word.the-variants as word
 use Rattle.fields.specs.declared.Number.{Number}
@@ -66,11 +68,14 @@ module _ (servers tasks : ℕ) where
   kind-says (kind.Is k) place next h = h k
   kind-says (kind.Bad w) place next h = tt
 
+  pair-says : (line : List ℕ) (first second : ℕ) (next : ℕ → ℕ → Line) → ((a b : ℕ) → Says servers tasks (next a b)) → Says servers tasks (numbersAt line first second next)
+  pair-says line first second next h = field-says (fieldNumber (fieldAt line first)) first _ (λ a. field-says (fieldNumber (fieldAt line second)) second _ (h a))
+
   span-says : (line : List ℕ) → Says servers tasks (spanLine line)
   span-says line =
       pick-says (eqb (length (fieldsOf line)) 2) 0 _ _ (λ e. go (sameBytes (fieldAt line 2) dash))
     where
-      go : (b : Bool) → Says servers tasks (pick b (SpanIs 0) (field (fieldNumber (fieldAt line 2)) 2 (λ h. ranged (inTicks h) 2 (SpanIs h))))
+      go : (b : Bool) → Says servers tasks (pick b (SpanIs 0) (numberAt line 2 (λ h. ranged (inTicks h) 2 (SpanIs h))))
       go true = omega arith
       go false =
           field-says (fieldNumber (fieldAt line 2)) 2 _
@@ -80,48 +85,46 @@ module _ (servers tasks : ℕ) where
   server-says line r z =
       pick-says (eqb (length (fieldsOf line)) 4) 0 _ _ (λ e.
       kind-says (kindOf (fieldAt line 2)) 2 _ (λ k.
-      field-says (fieldNumber (fieldAt line 3)) 3 _ (λ c.
-      field-says (fieldNumber (fieldAt line 4)) 4 _ (λ t.
+      pair-says line 3 4 _ (λ c t.
       pick-says (inTicks c && leb c t) 3 _ _ (λ p.
       pick-says (inTicks t) 4 _ _ (λ q. record {
         room = r;
         first = z;
         obeys = and-both (and-left (inTicks c) (leb c t) p) (and-both q (and-right (inTicks c) (leb c t) p));
-      }))))))
+      })))))
+
+  -- a task of a table that has room for it
+  module _ (r : tasks < 64) (s w d : ℕ) where
+    release-says : (x : Release) → between 1 servers s ≡ true → inTicks w ≡ true → Says servers tasks (releaseIs x (record { server = s; work = w; release = x; deadline = d }))
+    release-says (release.Once i) p q =
+        pick-says (leb i 16000) 4 _ _ (λ u. pick-says (inTicks d) 5 _ _ (λ v. record { room = r; obeys = and-both p (and-both q (and-both u v)) }))
+    release-says (release.Every o t) p q =
+        pick-says (leb o 16000) 4 _ _ (λ u.
+        pick-says (inTicks t) 5 _ _ (λ v. pick-says (inTicks d) 6 _ _ (λ x. record { room = r; obeys = and-both p (and-both q (and-both (and-both u v) x)) })))
+
+    task-says : (x : Release) → Says servers tasks (taskIs servers (record { server = s; work = w; release = x; deadline = d }))
+    task-says x = pick-says (between 1 servers s) 2 _ _ (λ p. pick-says (inTicks w) 3 _ _ (λ q. release-says x p q))
 
   once-says : (line : List ℕ) → tasks < 64 → Says servers tasks (onceLine servers line)
   once-says line r =
-      pick-says (eqb (length (fieldsOf line)) 5) 0 _ _ (λ e.
-      field-says (fieldNumber (fieldAt line 2)) 2 _ (λ s.
-      field-says (fieldNumber (fieldAt line 3)) 3 _ (λ w.
-      field-says (fieldNumber (fieldAt line 4)) 4 _ (λ i.
-      field-says (fieldNumber (fieldAt line 5)) 5 _ (λ d.
-      pick-says (between 1 servers s) 2 _ _ (λ p.
-      pick-says (inTicks w) 3 _ _ (λ q.
-      pick-says (leb i 16000) 4 _ _ (λ u.
-      pick-says (inTicks d) 5 _ _ (λ v. record { room = r; obeys = and-both p (and-both q (and-both u v)) })))))))))
+      pick-says (eqb (length (fieldsOf line)) 5) 0 _ _ (λ e. pair-says line 2 3 _ (λ s w. pair-says line 4 5 _ (λ i d. task-says r s w d (release.Once i))))
 
   every-says : (line : List ℕ) → tasks < 64 → Says servers tasks (everyLine servers line)
   every-says line r =
       pick-says (eqb (length (fieldsOf line)) 6) 0 _ _ (λ e.
-      field-says (fieldNumber (fieldAt line 2)) 2 _ (λ s.
-      field-says (fieldNumber (fieldAt line 3)) 3 _ (λ w.
-      field-says (fieldNumber (fieldAt line 4)) 4 _ (λ o.
-      field-says (fieldNumber (fieldAt line 5)) 5 _ (λ p.
-      field-says (deadlineOf (fieldAt line 6) p) 6 _ (λ d.
-      pick-says (between 1 servers s) 2 _ _ (λ a.
-      pick-says (inTicks w) 3 _ _ (λ b.
-      pick-says (leb o 16000) 4 _ _ (λ c.
-      pick-says (inTicks p) 5 _ _ (λ f.
-      pick-says (inTicks d) 6 _ _ (λ g. record { room = r; obeys = and-both a (and-both b (and-both (and-both c f) g)) })))))))))))
+      pair-says line 2 3 _ (λ s w. pair-says line 4 5 _ (λ o p. field-says (deadlineOf (fieldAt line 6) p) 6 _ (λ d. task-says r s w d (release.Every o p)))))
+
+  -- a task line behind a server
+  placed-says : (next : Line) → (tasks < 64 → Says servers tasks next) → Says servers tasks (taskPlaced servers tasks next)
+  placed-says next h = pick-says (ltb 0 servers) 0 _ _ (λ e. pick-says (ltb tasks 64) 0 _ _ (λ f. h (ltb-true tasks 64 f)))
 
   word-says : (w : Word) (n : ℕ) (line : List ℕ) → Says servers tasks (byWord w n servers tasks line)
   word-says word.Span n line = pick-says (eqb n 1) 0 _ _ (λ e. span-says line)
   word-says word.Server n line =
       pick-says (ltb 1 n && eqb tasks 0) 0 _ _ (λ e.
       pick-says (ltb servers 16) 0 _ _ (λ f. server-says line (ltb-true servers 16 f) (eqb-true tasks 0 (and-right (ltb 1 n) (eqb tasks 0) e))))
-  word-says word.Once n line = pick-says (ltb 0 servers) 0 _ _ (λ e. pick-says (ltb tasks 64) 0 _ _ (λ f. once-says line (ltb-true tasks 64 f)))
-  word-says word.Every n line = pick-says (ltb 0 servers) 0 _ _ (λ e. pick-says (ltb tasks 64) 0 _ _ (λ f. every-says line (ltb-true tasks 64 f)))
+  word-says word.Once n line = placed-says (onceLine servers line) (once-says line)
+  word-says word.Every n line = placed-says (everyLine servers line) (every-says line)
   word-says word.Unknown n line = tt
 
   pub line-says : (n : ℕ) (line : List ℕ) → Says servers tasks (lineOf n servers tasks line)
@@ -134,12 +137,6 @@ after-right (SpanIs h) t n next e = refl
 after-right (ServerIs s) t n next e = refl
 after-right (TaskIs k) t n next e = refl
 after-right (Wrong w place) t n next e = let z : _≡_ {A = ℕ} 0 1 = cc in absurd (omega arith)
-
-pub after-wrong : (line : Line) (t : Table) (n : ℕ) (next : Table → Reading) → goesOn line ≡ false → afterLine line t n next ≡ refusedLine line n
-after-wrong (SpanIs h) t n next e = let z : _≡_ {A = ℕ} 0 1 = cc in absurd (omega arith)
-after-wrong (ServerIs s) t n next e = let z : _≡_ {A = ℕ} 0 1 = cc in absurd (omega arith)
-after-wrong (TaskIs k) t n next e = let z : _≡_ {A = ℕ} 0 1 = cc in absurd (omega arith)
-after-wrong (Wrong w place) t n next e = refl
 
 -- ---- the table stays within its rules
 
@@ -189,12 +186,6 @@ sized-kept t (SpanIs h) z = record { of-servers = z .of-servers; of-tasks = z .o
 sized-kept t (ServerIs x) z = record { of-servers = simp length-set (z .of-servers); of-tasks = z .of-tasks }
 sized-kept t (TaskIs k) z = record { of-servers = z .of-servers; of-tasks = simp length-set (z .of-tasks) }
 sized-kept t (Wrong w place) z = z
-
-pub room-for : (t : Table) (line : Line) → Says (t .«servers_n») (t .«tasks_n») line → Room t line
-room-for t (SpanIs h) s = tt
-room-for t (ServerIs x) s = s .room
-room-for t (TaskIs k) s = s .room
-room-for t (Wrong w place) s = tt
 
 pub none-yet : InRules noTable
 unfolding all
@@ -257,28 +248,28 @@ firstLine rest = take (firstLength 10 rest) rest
 abbrev pub said : List ℕ → Table → ℕ → Line
 said rest t n = lineOf n (t .«servers_n») (t .«tasks_n») (firstLine rest)
 
+pub said-says : (rest : List ℕ) (t : Table) (n : ℕ) {x : Line} → said rest t n ≡ x → Says (t .«servers_n») (t .«tasks_n») x
+said-says rest t n e = subst (Says (t .«servers_n») (t .«tasks_n»)) e (line-says (t .«servers_n») (t .«tasks_n») n (firstLine rest))
+
 module _ {text rest : List ℕ} {t : Table} {n : ℕ} (u : Underway text rest t n) where
   pub feed-at : 0 < length rest → firstLength 10 rest < length rest
   feed-at h = line-feed rest (u .feeds) h
 
-  unread : (h : 0 < length rest)
-      → afterLine (said rest t n) t n (λ v. readLines (linesOf (drop (firstLength 10 rest + 1) rest)) v (n + 1)) ≡ readLines (linesOf text) noTable 1
+  unread : 0 < length rest → {x : Line} → said rest t n ≡ x
+      → afterLine x t n (λ v. readLines (linesOf (drop (firstLength 10 rest + 1) rest)) v (n + 1)) ≡ readLines (linesOf text) noTable 1
   unfolding readLines
-  unread h = (rw (line-next rest (feed-at h)) at (u .is))
+  unread h e = rw e at (rw (line-next rest (feed-at h)) at (u .is))
 
-  pub underway-wrong : 0 < length rest → goesOn (said rest t n) ≡ false → refusedLine (said rest t n) n ≡ readLines (linesOf text) noTable 1
-  underway-wrong h e = sym (after-wrong (said rest t n) t n _ e) ∙ unread h
+  pub underway-wrong : {w : Ground} {place : ℕ} → 0 < length rest → said rest t n ≡ Wrong w place → refusal w n place ≡ readLines (linesOf text) noTable 1
+  underway-wrong h e = unread h e
 
-  pub underway-room : Room t (said rest t n)
-  underway-room = room-for t (said rest t n) (line-says (t .«servers_n») (t .«tasks_n») n (firstLine rest))
-
-  pub underway-more : 0 < length rest → goesOn (said rest t n) ≡ true → Underway text (drop (firstLength 10 rest + 1) rest) (withLine t (said rest t n)) (n + 1)
-  underway-more h e =
+  pub underway-more : {x : Line} → 0 < length rest → said rest t n ≡ x → goesOn x ≡ true → Underway text (drop (firstLength 10 rest + 1) rest) (withLine t x) (n + 1)
+  underway-more {x} h e g =
       let k = firstLength 10 rest + 1 in
       record {
         feeds = feeds-on rest k (u .feeds) (omega (arith, feed-at h));
         short = omega (arith, length-drop k rest, u .short, feed-at h);
-        is = sym (after-right (said rest t n) t n (λ v. readLines (linesOf (drop k rest)) v (n + 1)) e) ∙ unread h;
+        is = sym (after-right x t n _ g) ∙ unread h e;
       }
 
   pub underway-end : length rest ≤ 0 → endedOf t n ≡ readLines (linesOf text) noTable 1

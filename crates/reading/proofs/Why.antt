@@ -1,23 +1,20 @@
 -- Why a text is answered as it is: its ways, and that each of them leads to the reading. Assumes nothing.
 use Prim.Native.Nat.{ℕ, _+_, _≤_, _<_}
-use mathlib.Core.Path.{_≡_, refl, sym, ap, _∙_}
+use mathlib.Core.Path.{_≡_, refl, sym, _∙_}
 use mathlib.Core.List.{List, [], _∷_}
-use mathlib.Core.Bool.{Bool, true, false, true≢false}
+use mathlib.Core.Bool.{Bool, true, false}
 use lib.ListN.{length}
-use lib.Dec.{leb, eqb}
+use lib.Dec.{leb}
 use borrow.Author.Tests.{leb-true, leb-false, ne-eqb}
 use Rattle.basics.specs.Choice.{pick}
-use Rattle.table.specs.Rules.{serversOf, tasksOf}
-use Rattle.table.specs.Span.{periodsOf, spanOf}
 use Rattle.table.specs.declared.Table.{Table}
 use Rattle.fields.specs.Fields.{linesOf}
-use Rattle.reading.specs.Reading.{refusal, accepted, resolved, noTable, endsWithFeed, afterLine, readLines, readingOf}
-use Rattle.reading.specs.Pieces.{withLine, goesOn}
+use Rattle.reading.specs.Reading.{refusal, noTable, endsWithFeed, readLines, readingOf}
+use Rattle.reading.specs.Pieces.{withLine}
 use Rattle.refusals.specs.declared.Ground.the-variants as what
-use Rattle.lines.specs.declared.Line.{Line}
-use Rattle.lines.specs.declared.Line.the-variants.{SpanIs, ServerIs, TaskIs, Wrong}
 use Rattle.reading.specs.declared.Reading.{Reading}
-use Rattle.reading.proofs.Grounds.{Because, wrong, further, missing, over, common, whole, both, said, lines-because}
+use Rattle.reading.proofs.Grounds.{Because, wrong, further, missing, over, common, whole, said, lines-because}
+use Rattle.reading.proofs.Rows.{after-right}
 use Rattle.reading.proofs.Accepted.{too-long, not-ended, by-lines}
 
 pub data Why : List ℕ → Reading → Type 0 where
@@ -39,17 +36,11 @@ why text = go (leb (length text) 4096) refl (endsWithFeed text) refl
 
 -- ---- each way leads to the reading, so that no two of them can be had with different answers
 
-right-line : (x : Line) (t : Table) (n : ℕ) (next : Table → Reading) → goesOn x ≡ true → next (withLine t x) ≡ afterLine x t n next
-right-line (SpanIs h) t n next e = refl
-right-line (ServerIs s) t n next e = refl
-right-line (TaskIs k) t n next e = refl
-right-line (Wrong w place) t n next e = absurd (true≢false (sym e))
-
 because-is : (ls : List (List ℕ)) (t : Table) (n : ℕ) (r : Reading) → Because ls t n r → r ≡ readLines ls t n
 unfolding readLines
 because-is (l ∷ ls) t n r (wrong e) = rw e
 because-is (l ∷ ls) t n r (further e b) =
-    because-is ls (withLine t (said t n l)) (n + 1) r b ∙ right-line (said t n l) t n (λ u. readLines ls u (n + 1)) e
+    because-is ls (withLine t (said t n l)) (n + 1) r b ∙ sym (after-right (said t n l) t n (λ u. readLines ls u (n + 1)) e)
 because-is [] t n r (missing e) = rw e
 because-is [] t n r (over e z s) = rw (e, z, s)
 because-is [] t n r (common e z s) = rw (e, z, s)

@@ -1,7 +1,7 @@
 -- Document 01, 'The table text' and 'Numbers given on refusal': from a text to a table, or to what is wrong with it.
-use Prim.Native.Nat.{ℕ, suc, _+_, _-_}
+use Prim.Native.Nat.{ℕ, _+_, _-_}
 use mathlib.Core.List.{List, [], _∷_}
-use mathlib.Core.Bool.{Bool, true, false, _&&_}
+use mathlib.Core.Bool.{Bool, _&&_}
 use lib.ListN.{length, getD, set, replicate}
 use lib.Dec.{ltb, leb, eqb}
 use Rattle.basics.specs.Choice.{pick}
@@ -19,7 +19,6 @@ use Rattle.refusals.specs.declared.Ground.{Ground}
 use Rattle.refusals.specs.declared.Ground.the-variants as what
 use Rattle.lines.specs.declared.Line.{Line}
 use Rattle.lines.specs.declared.Line.the-variants.{SpanIs, ServerIs, TaskIs, Wrong}
-use Rattle.reading.specs.declared.Answer.{Answer}
 use Rattle.reading.specs.declared.Answer.the-variants.{Accepted, Refused}
 use Rattle.reading.specs.declared.Reading.{Reading}
 

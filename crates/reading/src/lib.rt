@@ -13,11 +13,10 @@ use table::Table;
 use table::Task;
 use table::multiples::common_span;
 ghost use mathlib.Core.Path.{_≡_};
-ghost use Prim.Native.Nat.{_<_, _≤_};
+ghost use Prim.Native.Nat.{_≤_};
 ghost use lib.ListN.{length};
-ghost use Rattle.refusals.specs.Refusals.{numberOf};
-ghost use Rattle.reading.specs.Reading.{noTable, refusal, withSpan, withServer, withTask, endedOf, readLines, readingOf};
-ghost use Rattle.reading.specs.Pieces.{Room, withLine, goesOn, refusedLine, Feeds};
+ghost use Rattle.reading.specs.Reading.{noTable, refusal, endedOf, readLines, readingOf};
+ghost use Rattle.reading.specs.Pieces.{Feeds};
 ghost use Rattle.fields.specs.Fields.{linesOf};
 
 pub enum Answer {
@@ -65,39 +64,6 @@ pub fn refused(ground: Ground, line: u32, place: u32) -> Reading
     }
 }
 
-// The table with one server more.
-fn with_server(table: Table, server: Server) -> Table
-    requires { ⌜ table .«servers_n» < 16 ⌝ }
-    ensures { λ r. ⌜ r ≡ withServer table server ⌝ }
-{
-    let mut next = table;
-    let n = next.servers_n;
-    next.servers[n] = server;
-    next.servers_n = n + 1;
-    next
-}
-
-// The table with one task more.
-fn with_task(table: Table, task: Task) -> Table
-    requires { ⌜ table .«tasks_n» < 64 ⌝ }
-    ensures { λ r. ⌜ r ≡ withTask table task ⌝ }
-{
-    let mut next = table;
-    let n = next.tasks_n;
-    next.tasks[n] = task;
-    next.tasks_n = n + 1;
-    next
-}
-
-// The table with a span.
-fn with_span(table: Table, span: u32) -> Table
-    ensures { λ r. ⌜ r ≡ withSpan table span ⌝ }
-{
-    let mut next = table;
-    next.span = span;
-    next
-}
-
 // A table whose lines have all been read: what is missing, and the span that all periods give, if it was left open.
 fn ended(table: Table, line: u32) -> Reading
     ensures { λ r. ⌜ r ≡ endedOf table line ⌝ }
@@ -117,47 +83,11 @@ fn ended(table: Table, line: u32) -> Reading
     let Span::Ticks(span) = common_span(table) else {
         return refused(Ground::MultipleOver, 0, 0);
     };
-    let whole = with_span(table, span);
+    let mut whole = table;
+    whole.span = span;
     Reading {
         answer: Answer::Accepted,
         table: whole,
-    }
-}
-
-// The table with what a line says; a wrong line says nothing.
-fn with_line(table: Table, line: Line) -> Table
-    requires { ⌜ Room table line ⌝ }
-    ensures { λ r. ⌜ r ≡ withLine table line ⌝ }
-{
-    match line {
-        Line::SpanIs(span) => with_span(table, span),
-        Line::ServerIs(server) => with_server(table, server),
-        Line::TaskIs(task) => with_task(table, task),
-        Line::Wrong(_, _) => table,
-    }
-}
-
-// Whether nothing is wrong with a line.
-fn goes_on(line: Line) -> bool
-    ensures { λ r. ⌜ r ≡ goesOn line ⌝ }
-{
-    match line {
-        Line::SpanIs(_) => true,
-        Line::ServerIs(_) => true,
-        Line::TaskIs(_) => true,
-        Line::Wrong(_, _) => false,
-    }
-}
-
-// The refusal of line `n`, which is wrong.
-fn refused_line(line: Line, n: u32) -> Reading
-    ensures { λ r. ⌜ r ≡ refusedLine line n ⌝ }
-{
-    match line {
-        Line::Wrong(what, place) => refused(what, n, place),
-        Line::SpanIs(_) => refused(Ground::Misplaced, n, 0),
-        Line::ServerIs(_) => refused(Ground::Misplaced, n, 0),
-        Line::TaskIs(_) => refused(Ground::Misplaced, n, 0),
     }
 }
 
@@ -172,10 +102,24 @@ fn read_lines(text: &[u8]) -> Reading
     while 0 < rest.len() {
         let end = piece_length(rest, 10);
         let said = read_line(&rest[..end], n, table.servers_n, table.tasks_n);
-        if !goes_on(said) {
-            return refused_line(said, n);
+        match said {
+            Line::SpanIs(span) => {
+                table.span = span;
+            }
+            Line::ServerIs(server) => {
+                let k = table.servers_n;
+                table.servers[k] = server;
+                table.servers_n = k + 1;
+            }
+            Line::TaskIs(task) => {
+                let k = table.tasks_n;
+                table.tasks[k] = task;
+                table.tasks_n = k + 1;
+            }
+            Line::Wrong(what, place) => {
+                return refused(what, n, place);
+            }
         }
-        table = with_line(table, said);
         let behind = end + 1;
         rest = &rest[behind..];
         n += 1;

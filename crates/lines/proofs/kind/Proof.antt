@@ -1,5 +1,5 @@
--- `reading::lines::kind` meets its contract.
-use mathlib.Core.Path.{_≡_, refl, sym, _∙_}
+-- `lines::kind` meets its contract.
+use mathlib.Core.Path.{sym, _∙_}
 use borrow.Author.Tests.{eq-eqb, ne-eqb}
 use borrow.Author.Needs.{needs}
 use Rattle.lines.proofs.kind.Statement.{statement}

@@ -1,23 +1,38 @@
--- `reading::lines::server_line` meets its contract: the fields from the left.
-use Prim.Native.Nat.{ℕ, _≤_, _<_}
+-- `lines::server_line` meets its contract: the fields from the left.
 use mathlib.Core.Path.{_≡_, refl, sym, ap, _∙_}
-use mathlib.Core.Bool.{true, false}
 use native.Mathlib.Omega.{arith}
-use borrow.Author.Tests.{eq-eqb, ne-eqb, le-leb, lt-leb, not-true, not-false}
-use lib.ListN.{length, getD}
-use Rattle.lines.specs.Lines.{kindOf, deadlineOf}
+use lib.ListN.{length}
+use Rattle.table.specs.declared.Kind.{Kind}
+use Rattle.fields.specs.Fields.{fieldsOf, fieldAt}
+use Rattle.lines.specs.Lines.{counted, kindOf, kindField}
+use Rattle.lines.specs.declared.Line.{Line}
+use Rattle.lines.proofs.Passing.{has-place, count-passed, count-refused, kind-passed, kind-refused, pair-passed, pair-refused}
 use borrow.Author.Needs.{needs}
 use Rattle.lines.proofs.server_line.Statement.{statement}
 use Rattle.lines.proofs.server_line.Tie as tie
 
+four-fields : (c : tie.Else1) → length (fieldsOf (c .before .before .before .args .line .now)) ≡ 4
+four-fields c = sym (c .before .count .ensures) ∙ c .if1 .left
+
+kind-read : (c : tie.After-kind) → c .kind .result ≡ kindOf (fieldAt (c .before .before .before .before .before .args .line .now) 2)
+kind-read c = c .kind .ensures ∙ ap kindOf (c .before .field .ensures)
+
+-- the kind is passed, and what comes next decides
+by-kind : (c : tie.After-known-told) (next : Kind → Line)
+    → (let line = c .before .before .before .before .before .before .before .before .args .line .now in
+    counted line 4 (kindField (kindOf (fieldAt line 2)) 2 next) ≡ next (c .before .k .given .0 .0))
+by-kind c next =
+    let k = c .before .before .before in
+    count-passed _ 4 _ (four-fields (k .before .before)) ∙ kind-passed 2 next (kind-read k) (c .before .k .given .1)
+
 count-requires : tie.Need-count-requires
-count-requires c κs = c .before .pre
+count-requires c κs = search needs
 
 returns : tie.Need-returns
-returns c = rw (ne-eqb _ _ (λ e. c .if1 .taken (c .before .count .ensures ∙ e)))
+returns c = sym (count-refused _ 4 _ (c .before .count .ensures) (c .if1 .taken))
 
 field-requires : tie.Need-field-requires
-field-requires c κs = omega (arith, c .before .count .ensures, c .if1 .left)
+field-requires c κs = omega (arith, four-fields c)
 
 kind-requires : tie.Need-kind-requires
 kind-requires c κs = search needs
@@ -33,63 +48,33 @@ wrong-kind-requires c κs = search needs
 
 returns-2 : tie.Need-returns-2
 returns-2 c =
-    rw (
-      eq-eqb _ _ (sym (c .before .before .before .before .before .before .count .ensures) ∙ c .before .before .before .before .before .if1 .left),
-      ap kindOf (sym (c .before .before .before .before .field .ensures)) ∙ sym (c .before .before .before .kind .ensures) ∙ c .before .enum-told .given .1,
-    ) (rw (c .before .enum-told .given .1) at (c .wrong-kind .ensures))
+    let k = c .before .before .before in
+    sym (count-passed _ 4 _ (four-fields (k .before .before)) ∙ kind-refused 2 _ (kind-read k) (c .before .enum-told .given .1) (c .wrong-kind .ensures))
 
-number-at-requires : tie.Need-number-at-requires
-number-at-requires c κs = omega (arith, c .before .before .before .before .before .before .count .ensures, c .before .before .before .before .before .if1 .left)
+pair-at-requires : tie.Need-pair-at-requires
+pair-at-requires c κs = (has-place (four-fields (c .before .before .before .before .before)) refl, has-place (four-fields (c .before .before .before .before .before)) refl)
 
-enum-known-c : tie.Need-enum-known-c
-enum-known-c c = search needs
+enum-known-numbers : tie.Need-enum-known-numbers
+enum-known-numbers c = search needs
 
 enum-told-2 : tie.Need-enum-told-2
 enum-told-2 c = search needs
 
-wrong-requires : tie.Need-wrong-requires
-wrong-requires c κs = search needs
+wrong-pair-requires : tie.Need-wrong-pair-requires
+wrong-pair-requires c κs = search needs
 
 returns-3 : tie.Need-returns-3
 returns-3 c =
-    rw (
-      eq-eqb _ _ (sym (c .before .before .before .before .before .before .before .before .before .before .count .ensures) ∙ c .before .before .before .before .before .before .before .before .before .if1 .left),
-      ap kindOf (sym (c .before .before .before .before .before .before .before .before .field .ensures)) ∙ sym (c .before .before .before .before .before .before .before .kind .ensures) ∙ c .before .before .before .before .before .k .given .1,
-      sym (c .before .before .before .number-at .ensures) ∙ c .before .«enum-told2» .given .1,
-    ) (rw (c .before .«enum-told2» .given .1) at (c .wrong .ensures))
-
-number-at-requires-2 : tie.Need-number-at-requires-2
-number-at-requires-2 c κs = omega (arith, c .before .before .before .before .before .before .before .before .before .before .count .ensures, c .before .before .before .before .before .before .before .before .before .if1 .left)
-
-enum-known-t : tie.Need-enum-known-t
-enum-known-t c = search needs
-
-enum-told-3 : tie.Need-enum-told-3
-enum-told-3 c = search needs
-
-wrong-requires-2 : tie.Need-wrong-requires-2
-wrong-requires-2 c κs = search needs
-
-returns-4 : tie.Need-returns-4
-returns-4 c =
-    rw (
-      eq-eqb _ _ (sym (c .before .before .before .before .before .before .before .before .before .before .before .before .before .before .count .ensures) ∙ c .before .before .before .before .before .before .before .before .before .before .before .before .before .if1 .left),
-      ap kindOf (sym (c .before .before .before .before .before .before .before .before .before .before .before .before .field .ensures)) ∙ sym (c .before .before .before .before .before .before .before .before .before .before .before .kind .ensures) ∙ c .before .before .before .before .before .before .before .before .before .k .given .1,
-      sym (c .before .before .before .before .before .before .before .number-at .ensures) ∙ c .before .before .before .before .before .c .given .1,
-      sym (c .before .before .before .number-at2 .ensures) ∙ c .before .«enum-told3» .given .1,
-    ) (rw (c .before .«enum-told3» .given .1) at (c .wrong2 .ensures))
+    sym (by-kind (c .before .before .before .before) _
+    ∙ pair-refused _ (c .before .before .before .pair-at .ensures) (c .before .«enum-told2» .given .1) (c .wrong-pair .ensures))
 
 server-requires : tie.Need-server-requires
 server-requires c κs = search needs
 
-returns-5 : tie.Need-returns-5
-returns-5 c =
-    rw (
-      eq-eqb _ _ (sym (c .before .before .before .before .before .before .before .before .before .before .before .before .before .before .before .count .ensures) ∙ c .before .before .before .before .before .before .before .before .before .before .before .before .before .before .if1 .left),
-      ap kindOf (sym (c .before .before .before .before .before .before .before .before .before .before .before .before .before .field .ensures)) ∙ sym (c .before .before .before .before .before .before .before .before .before .before .before .before .kind .ensures) ∙ c .before .before .before .before .before .before .before .before .before .before .k .given .1,
-      sym (c .before .before .before .before .before .before .before .before .number-at .ensures) ∙ c .before .before .before .before .before .before .c .given .1,
-      sym (c .before .before .before .before .number-at2 .ensures) ∙ c .before .before .t .given .1,
-    ) (c .server .ensures)
+returns-4 : tie.Need-returns-4
+returns-4 c =
+    c .server .ensures
+    ∙ sym (by-kind (c .before .before .before .before .before) _ ∙ pair-passed _ (c .before .before .before .before .pair-at .ensures) (c .before .before .numbers .given .1))
 
 pub server-line-spec : {M : Type 1} → statement M
 server-line-spec =
@@ -103,15 +88,10 @@ server-line-spec =
     enum-told
     wrong-kind-requires
     returns-2
-    number-at-requires
-    enum-known-c
+    pair-at-requires
+    enum-known-numbers
     enum-told-2
-    wrong-requires
+    wrong-pair-requires
     returns-3
-    number-at-requires-2
-    enum-known-t
-    enum-told-3
-    wrong-requires-2
-    returns-4
     server-requires
-    returns-5)
+    returns-4)

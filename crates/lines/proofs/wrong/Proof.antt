@@ -1,5 +1,4 @@
--- `reading::lines::wrong` meets its contract.
-use mathlib.Core.Path.{_≡_, refl}
+-- `lines::wrong` meets its contract.
 use borrow.Author.Needs.{needs}
 use Rattle.lines.proofs.wrong.Statement.{statement}
 use Rattle.lines.proofs.wrong.Tie as tie

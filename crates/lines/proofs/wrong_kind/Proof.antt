@@ -1,5 +1,4 @@
--- `reading::lines::wrong_kind` meets its contract.
-use mathlib.Core.Path.{_≡_, refl}
+-- `lines::wrong_kind` meets its contract.
 use borrow.Author.Needs.{needs}
 use Rattle.lines.proofs.wrong_kind.Statement.{statement}
 use Rattle.lines.proofs.wrong_kind.Tie as tie

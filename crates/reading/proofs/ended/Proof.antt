@@ -1,12 +1,16 @@
 -- `reading::ended` meets its contract: what is missing, then the span.
-use Prim.Native.Nat.{ℕ, _≤_, _<_}
-use mathlib.Core.Path.{_≡_, refl, sym, ap, _∙_}
-use mathlib.Core.Bool.{true, false, _&&_, and-false}
+use mathlib.Core.Path.{_≡_, sym, _∙_}
+use mathlib.Core.Bool.{true, _&&_, and-false}
 use native.Mathlib.Omega.{arith}
+use lib.Dec.{ltb}
 use borrow.Author.Tests.{eq-eqb, ne-eqb, lt-ltb, le-ltb}
 use borrow.Author.Needs.{needs}
 use Rattle.reading.proofs.ended.Statement.{statement}
 use Rattle.reading.proofs.ended.Tie as tie
+
+-- neither servers nor tasks are missing
+some : (c : tie.Else2) → (let t = c .before .before .before .before .args .table in (ltb 0 (t .«servers_n») && ltb 0 (t .«tasks_n»)) ≡ true)
+some c = rw (lt-ltb 0 (c .before .before .before .before .args .table .«servers_n») (c .before .before .if1 .left)) (lt-ltb 0 _ (c .if2 .left))
 
 refused-requires : tie.Need-refused-requires
 refused-requires c κs = search needs
@@ -22,8 +26,7 @@ returns-2 c =
     rw (le-ltb 0 (c .before .before .before .before .before .args .table .«tasks_n») (omega (arith, c .before .if2 .taken)), and-false) (c .refused2 .ensures)
 
 returns-3 : tie.Need-returns-3
-returns-3 c =
-    rw (lt-ltb 0 (c .before .before .before .before .before .before .args .table .«servers_n») (c .before .before .before .before .if1 .left), lt-ltb 0 (c .before .before .before .before .before .before .args .table .«tasks_n») (c .before .before .if2 .left), ne-eqb _ _ (c .if3 .taken))
+returns-3 c = rw (some (c .before .before), ne-eqb _ _ (c .if3 .taken))
 
 common-span-requires : tie.Need-common-span-requires
 common-span-requires c κs = search needs
@@ -39,24 +42,13 @@ refused-requires-3 c κs = search needs
 
 returns-4 : tie.Need-returns-4
 returns-4 c =
-    rw (
-      lt-ltb 0 (c .before .before .before .before .before .before .before .before .before .before .args .table .«servers_n») (c .before .before .before .before .before .before .before .before .if1 .left),
-      lt-ltb 0 (c .before .before .before .before .before .before .before .before .before .before .args .table .«tasks_n») (c .before .before .before .before .before .before .if2 .left),
-      eq-eqb _ _ (c .before .before .before .before .if3 .left),
-      sym (c .before .before .before .common-span .ensures) ∙ c .before .enum-told .given .1,
-    ) (c .refused3 .ensures)
-
-with-span-requires : tie.Need-with-span-requires
-with-span-requires c κs = search needs
+    let e = c .before .before .before .before in
+    rw (some (e .before .before), eq-eqb _ _ (e .if3 .left), sym (c .before .before .before .common-span .ensures) ∙ c .before .enum-told .given .1) (c .refused3 .ensures)
 
 returns-5 : tie.Need-returns-5
 returns-5 c =
-    rw (
-      lt-ltb 0 (c .before .before .before .before .before .before .before .before .before .before .before .args .table .«servers_n») (c .before .before .before .before .before .before .before .before .before .if1 .left),
-      lt-ltb 0 (c .before .before .before .before .before .before .before .before .before .before .before .args .table .«tasks_n») (c .before .before .before .before .before .before .before .if2 .left),
-      eq-eqb _ _ (c .before .before .before .before .before .if3 .left),
-      sym (c .before .before .before .before .common-span .ensures) ∙ c .before .before .span .given .1,
-    ) (rw (c .with-span .ensures))
+    let e = c .before .before .before .before in
+    rw (some (e .before .before), eq-eqb _ _ (e .if3 .left), sym (c .before .before .before .common-span .ensures) ∙ c .before .span .given .1)
 
 pub ended-spec : {M : Type 1} → statement M
 ended-spec =
@@ -72,5 +64,4 @@ ended-spec =
     enum-told
     refused-requires-3
     returns-4
-    with-span-requires
     returns-5)

@@ -1,9 +1,8 @@
--- `reading::fields::count` meets its contract. The loop's invariant: the fields counted and those from i on are one more than all.
-use Prim.Native.Nat.{ℕ, suc, _+_, _-_, _^_, _≤_, _<_}
-use mathlib.Core.Path.{_≡_, refl, sym, ap, _∙_}
-use mathlib.Core.Bool.{true, false}
+-- `fields::parting::count` meets its contract. The loop's invariant: the fields counted and those from i on are one more than all.
+use Prim.Native.Nat.{_+_, _-_, _≤_}
+use mathlib.Core.Path.{_≡_}
 use native.Mathlib.Omega.{arith}
-use lib.ListN.{length, getD, drop}
+use lib.ListN.{length, drop}
 use mathlib.Core.Logic.{⊎-elim}
 use Rattle.fields.specs.Fields.{split}
 use Rattle.fields.proofs.Splits.{pieces-here, pieces-next, pieces-end}

@@ -1,6 +1,6 @@
--- `reading::fields::field` meets its contract. The loop's invariant is `Passed`: the field is behind skip - k others of the rest.
-use Prim.Native.Nat.{ℕ, _+_, _-_, _≤_, _<_}
-use mathlib.Core.Path.{_≡_, refl, sym, ap, _∙_}
+-- `fields::parting::field` meets its contract. The loop's invariant is `Passed`: the field is behind skip - k others of the rest.
+use Prim.Native.Nat.{_-_, _<_}
+use mathlib.Core.Path.{sym}
 use native.Mathlib.Omega.{arith}
 use lib.ListN.{length}
 use lib.Seq.{length-take-le}

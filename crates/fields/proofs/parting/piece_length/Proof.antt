@@ -1,10 +1,9 @@
--- `reading::fields::piece_length` meets its contract. The loop's invariant: the bytes passed and those up to the first separator from i
+-- `fields::parting::piece_length` meets its contract. The loop's invariant: the bytes passed and those up to the first separator from i
 -- on are the first piece.
-use Prim.Native.Nat.{ℕ, suc, _+_, _-_, _^_, _≤_, _<_}
-use mathlib.Core.Path.{_≡_, refl, sym, ap, _∙_}
-use mathlib.Core.Bool.{true, false}
+use Prim.Native.Nat.{_+_, _-_, _≤_}
+use mathlib.Core.Path.{_≡_}
 use native.Mathlib.Omega.{arith}
-use lib.ListN.{length, getD, drop}
+use lib.ListN.{length, drop}
 use Rattle.fields.specs.Pieces.{firstLength}
 use Rattle.fields.proofs.Splits.{first-here, first-next, first-end}
 use borrow.Author.Needs.{needs}

@@ -1,9 +1,8 @@
--- `reading::fields::same` meets its contract. The loop's invariant: the slices are the same just when they are from i on.
-use Prim.Native.Nat.{ℕ, suc, _+_, _-_, _^_, _≤_, _<_}
-use mathlib.Core.Path.{_≡_, refl, sym, ap, _∙_}
-use mathlib.Core.Bool.{true, false}
+-- `fields::parting::same` meets its contract. The loop's invariant: the slices are the same just when they are from i on.
+use Prim.Native.Nat.{_-_}
+use mathlib.Core.Path.{_≡_, refl, sym, _∙_}
 use native.Mathlib.Omega.{arith}
-use lib.ListN.{length, getD, drop}
+use lib.ListN.{length, drop}
 use borrow.Author.Tests.{eq-eqb, ne-eqb}
 use Rattle.fields.specs.Fields.{sameBytes}
 use Rattle.fields.proofs.Bytes.{same-lengths, same-turn, same-end}

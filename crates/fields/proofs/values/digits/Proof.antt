@@ -1,9 +1,7 @@
--- `reading::fields::digits` meets its contract. The loop's invariant: all bytes are digits just when those from i on are.
-use Prim.Native.Nat.{ℕ, suc, _+_, _-_, _^_, _≤_, _<_}
-use mathlib.Core.Path.{_≡_, refl, sym, ap, _∙_}
-use mathlib.Core.Bool.{true, false}
-use native.Mathlib.Omega.{arith}
-use lib.ListN.{length, getD, drop}
+-- `fields::values::digits` meets its contract. The loop's invariant: all bytes are digits just when those from i on are.
+use Prim.Native.Nat.{_-_}
+use mathlib.Core.Path.{_≡_, refl, sym, _∙_}
+use lib.ListN.{length, drop}
 use borrow.Author.Tests.{le-leb, lt-leb}
 use Rattle.table.specs.Rules.{all}
 use Rattle.fields.specs.Fields.{isDigit}

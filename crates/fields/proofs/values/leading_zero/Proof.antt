@@ -1,5 +1,4 @@
--- `reading::fields::leading_zero` meets its contract.
-use mathlib.Core.Path.{_≡_, refl}
+-- `fields::values::leading_zero` meets its contract.
 use borrow.Author.Tests.{eq-eqb, ne-eqb}
 use borrow.Author.Needs.{needs}
 use Rattle.fields.proofs.values.leading_zero.Statement.{statement}

@@ -1,10 +1,10 @@
--- `reading::fields::value` meets its contract. The loop's invariant: with the digits from i on, n makes the whole number, and it is less
+-- `fields::values::value` meets its contract. The loop's invariant: with the digits from i on, n makes the whole number, and it is less
 -- than the i-th power of ten.
-use Prim.Native.Nat.{ℕ, suc, _+_, _-_, _^_, _≤_, _<_}
-use mathlib.Core.Path.{_≡_, refl, sym, ap, _∙_}
-use mathlib.Core.Bool.{true, false}
+use Prim.Native.Nat.{_-_, _^_, _<_}
+use mathlib.Core.Path.{_≡_, refl, sym, _∙_}
+use mathlib.Core.Bool.{true}
 use native.Mathlib.Omega.{arith}
-use lib.ListN.{length, getD, drop}
+use lib.ListN.{length, drop}
 use Rattle.table.specs.Rules.{all}
 use Rattle.fields.specs.Fields.{isDigit, digitsFrom}
 use Rattle.fields.proofs.Bytes.{Digit, digit-at, digits-turn, digits-end, tens, one-more}

@@ -1,6 +1,5 @@
--- `reading::fields::word` meets its contract: the words one after the other.
-use mathlib.Core.Path.{_≡_, refl, sym, _∙_}
-use mathlib.Core.Bool.{true, false}
+-- `fields::values::word` meets its contract: the words one after the other.
+use mathlib.Core.Path.{sym, _∙_}
 use borrow.Author.Needs.{needs}
 use Rattle.fields.proofs.values.word.Statement.{statement}
 use Rattle.fields.proofs.values.word.Tie as tie
