@@ -98,8 +98,6 @@ read-obeys text = go (leb (length text) 4096) (endsWithFeed text)
     go true false = tt
     go false b = tt
 
--- ---- 1: "text over 4,096 bytes"; 2: "text empty or last byte not a line feed"
-
 -- ---- the arrays of a table that is handed back have their lengths
 
 resolved-sized : (t : Table) (r : Span) → Sized t → Sized (resolved t r .table)
@@ -140,6 +138,8 @@ read-sized text = go (leb (length text) 4096) (endsWithFeed text)
     go true true = lines-sized (linesOf text) noTable 1 none-sized
     go true false = none-sized
     go false b = none-sized
+
+-- ---- 1: "text over 4,096 bytes"; 2: "text empty or last byte not a line feed"
 
 pub too-long : (text : List ℕ) → 4096 < length text → readingOf text ≡ refusal what.TextTooLong 0 0
 too-long text h = rw (lt-leb (length text) 4096 h)

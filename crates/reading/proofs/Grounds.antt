@@ -18,7 +18,7 @@ use Rattle.table.specs.declared.Kind.the-variants.{Deferrable, Periodic}
 use Rattle.table.specs.declared.Span.{Span}
 use Rattle.table.specs.declared.Span.the-variants.{Ticks, Over}
 use Rattle.fields.specs.Fields.{fieldsOf, fieldAt, sameBytes, dash, deferrableWord, periodicWord, wordOf, isDigit, digitsFrom, startsWithZero, fieldNumber}
-use Rattle.lines.specs.Lines.{field, ranged, numberAt, numbersAt, counted, kindOf, kindField, serverIs, releaseIs, taskIs, deadlineOf, taskPlaced, byWord, lineOf}
+use Rattle.lines.specs.Lines.{field, ranged, numberAt, numbersAt, counted, spanLine, kindOf, kindField, serverLine, releaseIs, taskIs, onceLine, deadlineOf, everyLine, taskPlaced, byWord, lineOf}
 use Rattle.reading.specs.Reading.{refusal, accepted, withSpan, resolved, endedOf, afterLine, readLines}
 use Rattle.reading.specs.Pieces.{withLine, goesOn}
 use Rattle.refusals.specs.declared.Ground.{Ground}
@@ -252,56 +252,53 @@ module _ (w : Word) (n servers tasks : ℕ) (line : List ℕ) where
   room-ground false p e next h = (p, e)
 
   -- a task line behind a server
-  placed-ground : inPlace w n servers tasks ≡ ltb 0 servers → hasRoom w servers tasks ≡ ltb tasks 64 → (k : ℕ) → fieldCount w ≡ k → (next : Line)
-      → (Counted → Grounded next) → Grounded (taskPlaced servers tasks (counted line k next))
-  placed-ground p r k e next h =
-      place-ground (ltb 0 servers) p _ (λ f. room-ground (ltb tasks 64) (p ∙ f) r _ (λ g. count-ground k e (p ∙ f) (r ∙ g) next h))
+  placed-ground : inPlace w n servers tasks ≡ ltb 0 servers → hasRoom w servers tasks ≡ ltb tasks 64 → (next : Line)
+      → (inPlace w n servers tasks ≡ true → hasRoom w servers tasks ≡ true → Grounded next) → Grounded (taskPlaced servers tasks next)
+  placed-ground p r next h = place-ground (ltb 0 servers) p _ (λ f. room-ground (ltb tasks 64) (p ∙ f) r next (λ g. h (p ∙ f) (r ∙ g)))
 
--- ---- each kind of line
+  -- ---- each kind of line, in its place and with room for it
+
+  module _ (placed : inPlace w n servers tasks ≡ true) (room : hasRoom w servers tasks ≡ true) where
+    span-ground : fieldCount w ≡ 2 → Grounded (spanLine line)
+    span-ground e = count-ground 2 e placed room _ (λ x. go x (sameBytes (fieldAt line 2) dash))
+      where
+        go : Counted → (b : Bool) → Grounded (pick b (SpanIs 0) (numberAt line 2 (λ h. ranged (inTicks h) 2 (SpanIs h))))
+        go x true = tt
+        go x false = at-place x 2 _ (λ h f. range-ground x (inTicks h) 2 (SpanIs h) (span-out f) tt)
+
+    server-ground : fieldCount w ≡ 4 → Grounded (serverLine line)
+    server-ground e =
+        count-ground 4 e placed room _ (λ x.
+        kind-ground x (kindOf (fieldAt line 2)) refl (kinds-of (fieldAt line 2)) _ (λ k.
+        pair-ground x 3 4 _ (λ c t f g.
+        range-ground x (inTicks c && leb c t) 3 _ (capacity-out f g) (range-ground x (inTicks t) 4 _ (server-period-out g) tt))))
+
+    once-ground : fieldCount w ≡ 5 → Grounded (onceLine servers line)
+    once-ground e =
+        count-ground 5 e placed room _ (λ x.
+        pair-ground x 2 3 _ (λ s k a b.
+        pair-ground x 4 5 _ (λ i d f g.
+        task-ground x (record { server = s; work = k; release = release.Once i; deadline = d }) a b
+        (range-ground x (leb i 16000) 4 _ (instant-out f) (range-ground x (inTicks d) 5 _ (once-deadline-out g) tt)))))
+
+    every-ground : fieldCount w ≡ 6 → Grounded (everyLine servers line)
+    every-ground e =
+        count-ground 6 e placed room _ (λ x.
+        pair-ground x 2 3 _ (λ s k a b.
+        pair-ground x 4 5 _ (λ o p f g.
+        or-dash x 6 p _ (λ d h.
+        task-ground x (record { server = s; work = k; release = release.Every o p; deadline = d }) a b
+        (range-ground x (leb o 16000) 4 _ (instant-out f)
+        (range-ground x (inTicks p) 5 _ (period-out g) (range-ground x (inTicks d) 6 _ (deadline-out p h) tt)))))))
 
 module _ (n servers tasks : ℕ) (line : List ℕ) where
-  -- the number at a place, as it was read
-  abbrev At : ℕ → ℕ → Type 0
-  At place v = fieldNumber (fieldAt line place) ≡ number.Value v
-
-  span-ground : Counted word.Span n servers tasks line → Grounded word.Span n servers tasks line
-      (pick (sameBytes (fieldAt line 2) dash) (SpanIs 0) (numberAt line 2 (λ h. ranged (inTicks h) 2 (SpanIs h))))
-  span-ground c = go (sameBytes (fieldAt line 2) dash)
-    where
-      go : (b : Bool) → Grounded word.Span n servers tasks line (pick b (SpanIs 0) (numberAt line 2 (λ h. ranged (inTicks h) 2 (SpanIs h))))
-      go true = tt
-      go false = at-place word.Span n servers tasks line c 2 _ (λ h e. range-ground word.Span n servers tasks line c (inTicks h) 2 (SpanIs h) (span-out e) tt)
-
-  server-ground : Counted word.Server n servers tasks line → (k : Kind) (c t : ℕ) → At 3 c → At 4 t → Grounded word.Server n servers tasks line (serverIs k c t)
-  server-ground x k c t e f =
-      range-ground word.Server n servers tasks line x (inTicks c && leb c t) 3 _ (capacity-out e f)
-      (range-ground word.Server n servers tasks line x (inTicks t) 4 _ (server-period-out f) tt)
-
   word-ground : (w : Word) → Grounded w n servers tasks line (byWord w n servers tasks line)
-  word-ground word.Span =
-      place-ground word.Span n servers tasks line (eqb n 1) refl _ (λ p. count-ground word.Span n servers tasks line 2 refl p refl _ span-ground)
+  word-ground word.Span = place-ground word.Span n servers tasks line (eqb n 1) refl _ (λ p. span-ground word.Span n servers tasks line p refl refl)
   word-ground word.Server =
       place-ground word.Server n servers tasks line (ltb 1 n && eqb tasks 0) refl _ (λ p.
-      room-ground word.Server n servers tasks line (ltb servers 16) p refl _ (λ r.
-      count-ground word.Server n servers tasks line 4 refl p r _ (λ x.
-      kind-ground word.Server n servers tasks line x (kindOf (fieldAt line 2)) refl (kinds-of word.Server n servers tasks line (fieldAt line 2)) _ (λ k.
-      pair-ground word.Server n servers tasks line x 3 4 _ (λ c t e f. server-ground x k c t e f)))))
-  word-ground word.Once =
-      placed-ground word.Once n servers tasks line refl refl 5 refl _ (λ x.
-      pair-ground word.Once n servers tasks line x 2 3 _ (λ s w a b.
-      pair-ground word.Once n servers tasks line x 4 5 _ (λ i d c e.
-      task-ground word.Once n servers tasks line x (record { server = s; work = w; release = release.Once i; deadline = d }) a b
-      (range-ground word.Once n servers tasks line x (leb i 16000) 4 _ (instant-out c)
-      (range-ground word.Once n servers tasks line x (inTicks d) 5 _ (once-deadline-out e) tt)))))
-  word-ground word.Every =
-      placed-ground word.Every n servers tasks line refl refl 6 refl _ (λ x.
-      pair-ground word.Every n servers tasks line x 2 3 _ (λ s w a b.
-      pair-ground word.Every n servers tasks line x 4 5 _ (λ o p c e.
-      or-dash word.Every n servers tasks line x 6 p _ (λ d f.
-      task-ground word.Every n servers tasks line x (record { server = s; work = w; release = release.Every o p; deadline = d }) a b
-      (range-ground word.Every n servers tasks line x (leb o 16000) 4 _ (instant-out c)
-      (range-ground word.Every n servers tasks line x (inTicks p) 5 _ (period-out e)
-      (range-ground word.Every n servers tasks line x (inTicks d) 6 _ (deadline-out p f) tt)))))))
+      room-ground word.Server n servers tasks line (ltb servers 16) p refl _ (λ r. server-ground word.Server n servers tasks line p r refl))
+  word-ground word.Once = placed-ground word.Once n servers tasks line refl refl _ (λ p r. once-ground word.Once n servers tasks line p r refl)
+  word-ground word.Every = placed-ground word.Every n servers tasks line refl refl _ (λ p r. every-ground word.Every n servers tasks line p r refl)
   word-ground word.Unknown = refl
 
   -- a line is refused on its stated ground and on no other
