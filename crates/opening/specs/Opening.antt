@@ -34,12 +34,10 @@ answerBy refused of (Refused refusal) table = refused refusal
 abbrev pub answerOf : {A : Type 0} → (Refusal → A) → (Table → A) → List ℕ → Bool → A
 answerOf refused of text room = answerBy refused of (readWith text room .answer) (readWith text room .table)
 
--- 13: "tick asked is H or more, tested last"
-abbrev pub tickRefusal : ℕ → ℕ → Refusal
-tickRefusal span tick = pick (leb span tick) (refusedFor OutOfStep) noRefusal
-
+-- the refusal of a text that was read; 13: "tick asked is H or more, tested last"
 abbrev pub refusalAt : Answer → ℕ → ℕ → Refusal
-refusalAt answer span tick = answerBy {A = Refusal} (λ r. r) (λ table. tickRefusal span tick) answer (refusal WorkRoom 0 0 .table)
+refusalAt Accepted span tick = pick (leb span tick) (refusedFor OutOfStep) noRefusal
+refusalAt (Refused refusal) span tick = refusal
 
 -- the refusal, or none, and the table
 abbrev pub openedOf : List ℕ → ℕ → Bool → Opened

@@ -12,9 +12,16 @@ use Rattle.fitting.proofs.Place.next.Tie as tie
 wants : (c : tie.Else1) → Ahead (c .before .before .before .args .demand .now) (c .before .before .before .args .self .at) (c .before .before .before .args .self .wanted)
 wants c = ahead-at _ _ _ (c .before .before .before .pre .demand) (c .if1 .left)
 
+-- places further back, from where there is a window of the supply: where there is one of the demand, and the start
+abbrev wanting : tie.Else3 → tie.Else1
+wanting c = c .before .before .before
+
+abbrev start : tie.Else3 → tie.Start
+start c = c .before .before .before .before .before .before
+
 -- the first window of the supply
-offers : (c : tie.Else3) → Ahead (c .before .before .before .before .before .before .args .supply .now) 0 (c .before .before .before .before .before .before .args .self .free)
-offers c = ahead-at _ _ _ (c .before .before .before .before .before .before .pre .supply) (omega (arith, c .if3 .left))
+offers : (c : tie.Else3) → Ahead (start c .args .supply .now) 0 (start c .args .self .free)
+offers c = ahead-at _ _ _ (start c .pre .supply) (omega (arith, c .if3 .left))
 
 returns : tie.Need-returns
 returns c = piece-done (c .before .before .before .before .pre) (c .before .if1 .taken) (supply-none (c .before .before .before .before .pre) (c .if2 .taken))
@@ -67,37 +74,42 @@ shared-slice-read-e-2 c = search needs
 
 returns-4 : tie.Need-returns-4
 returns-4 c =
+    let o = c .before .before .before .before in
     let q = c .before .before .before .before .before .larger2 .ensures in
-    rw (c .before .before .larger3 .ensures) (piece-passed (c .before .before .before .before .before .before .before .before .before .before .pre) (wants (c .before .before .before .before .before .before .before)) (offers (c .before .before .before .before)) (rw q at (c .if4 .taken)))
+    rw (c .before .before .larger3 .ensures) (piece-passed (start o .pre) (wants (wanting o)) (offers o) (rw q at (c .if4 .taken)))
 
 returns-5 : tie.Need-returns-5
 returns-5 c =
+    let o = c .before .before .before .before .before in
     let q = c .before .before .before .before .before .before .larger2 .ensures in
     let s = c .before .before .before .larger3 .ensures in
-    rw (q, s) (piece-side (c .before .before .before .before .before .before .before .before .before .before .before .pre) (wants (c .before .before .before .before .before .before .before .before)) (offers (c .before .before .before .before .before)) (rw q at (c .before .if4 .left)) (rw (q, s) at (c .if5 .taken)))
+    rw (q, s) (piece-side (start o .pre) (wants (wanting o)) (offers o) (rw q at (c .before .if4 .left)) (rw (q, s) at (c .if5 .taken)))
 
 stretch-requires : tie.Need-stretch-requires
 stretch-requires c κs =
+    let o = c .before .before .before .before .before in
     let q = c .before .before .before .before .before .before .larger2 .ensures in
     let s = c .before .before .before .larger3 .ensures in
-    let o = offers (c .before .before .before .before .before) .front in
+    let w = offers o .front in
     record {
-      plain = c .before .before .before .before .before .before .before .before .before .before .before .pre .demand;
-      some = c .before .before .before .before .before .before .before .before .if1 .left;
+      plain = start o .pre .demand;
+      some = wanting o .if1 .left;
       starts = rw (← q) (c .if5 .left);
-      below = rw s (o .rises);
-      bounded = o .bounded;
+      below = rw s (w .rises);
+      bounded = w .bounded;
     }
 
 returns-6 : tie.Need-returns-6
 returns-6 c =
+    let o = c .before .before .before .before .before .before .before .before in
     let s = c .before .before .before .before .before .before .larger3 .ensures in
-    rw s (piece-served (c .before .before .before .before .before .before .before .before .before .before .before .before .before .before .pre) (wants (c .before .before .before .before .before .before .before .before .before .before .before)) (offers (c .before .before .before .before .before .before .before .before)) (rw s at (c .before .before .stretch .ensures)) (c .if6 .taken))
+    rw s (piece-served (start o .pre) (wants (wanting o)) (offers o) (rw s at (c .before .before .stretch .ensures)) (c .if6 .taken))
 
 returns-7 : tie.Need-returns-7
 returns-7 c =
+    let o = c .before .before .before .before .before .before .before .before in
     let s = c .before .before .before .before .before .before .larger3 .ensures in
-    rw s (piece-used (c .before .before .before .before .before .before .before .before .before .before .before .before .before .before .pre) (wants (c .before .before .before .before .before .before .before .before .before .before .before)) (offers (c .before .before .before .before .before .before .before .before)) (rw s at (c .before .before .stretch .ensures)) (c .if6 .left))
+    rw s (piece-used (start o .pre) (wants (wanting o)) (offers o) (rw s at (c .before .before .stretch .ensures)) (c .if6 .left))
 
 pub next-spec : {M : Type 1} → statement M
 next-spec =
