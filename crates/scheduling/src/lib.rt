@@ -4,13 +4,12 @@ use answering::answer_all;
 use answering::first_marked;
 use answering::no_notes;
 use answers::Analysis;
-use buffers::clear;
+use buffers::clear_all;
 use opening::open_text;
 use refusals::Refusal;
 use table::Table;
 ghost use mathlib.Core.Path.{_≡_};
 ghost use Prim.Native.Nat.{_≤_};
-ghost use lib.ListN.{length, replicate};
 ghost use Rattle.opening.specs.Opening.{roomy};
 ghost use Rattle.scheduling.specs.Buffers.{Buffers};
 ghost use Rattle.scheduling.specs.Working.{Works, toldBy, listedBy};
@@ -29,27 +28,6 @@ struct Worked {
     refusal: Refusal,
     table: Table,
     notes: Notes,
-}
-
-// Sets every number of the six work buffers to 0.
-fn clear_all(
-    free: &mut [u32],
-    sum: &mut [u32],
-    part: &mut [u32],
-    held: &mut [u32],
-    running: &mut [u32],
-    spare: &mut [u32],
-)
-    ensures { λ _. ⌜ (now (free .exit) ≡ replicate (length (now (free .entry))) 0) × (now (sum .exit) ≡ replicate (length (now (sum .entry))) 0)
-        × (now (part .exit) ≡ replicate (length (now (part .entry))) 0) × (now (held .exit) ≡ replicate (length (now (held .entry))) 0)
-        × (now (running .exit) ≡ replicate (length (now (running .entry))) 0) × (now (spare .exit) ≡ replicate (length (now (spare .entry))) 0) ⌝ }
-{
-    clear(free);
-    clear(sum);
-    clear(part);
-    clear(held);
-    clear(running);
-    clear(spare);
 }
 
 // Works out the notes of a text's table and of a tick; every number of the work buffers is then 0.

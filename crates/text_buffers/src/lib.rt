@@ -10,7 +10,7 @@ use lending::Seen;
 use lending::lend;
 use text_lines::asking::Rooms;
 use text_lines::put_refused;
-ghost use Rattle.text_lines.specs.Lendable.{Lendable};
+ghost use Rattle.text_lines.specs.Fits.{Lendable};
 
 // A call on six lent buffers: the analysis, or who holds a tick.
 pub enum Call {

@@ -30,12 +30,11 @@ use text_reports::reports::put_with_room;
 use text_reports::ticks::put_ticks;
 ghost use Prim.Native.Nat.{_<_};
 ghost use lib.ListN.{length};
-ghost use Rattle.io.specs.Counts.{Counts};
-ghost use Rattle.text_lines.specs.Lendable.{Lendable};
+ghost use Rattle.text_lines.specs.Fits.{Fits};
 
 // Puts the answer to what a line asks for.
 fn answer(asked: Asked, out: &mut [u8; 65536], n: usize) -> usize
-    requires { ⌜ Lendable (asked .rooms) × Counts (asked .count) (asked .bytes) ⌝ }
+    requires { ⌜ Fits asked ⌝ }
 {
     let kind = asked.kind;
     let rooms = asked.rooms;

@@ -1,1 +1,1 @@
-pub mod Lendable
+pub mod Fits

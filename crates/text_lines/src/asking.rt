@@ -7,7 +7,7 @@ use batch::numbers::no_number;
 use batch::numbers::read_number;
 ghost use Prim.Native.Nat.{_≤_};
 ghost use Rattle.io.specs.Counts.{Counts};
-ghost use Rattle.text_lines.specs.Lendable.{Lendable};
+ghost use Rattle.text_lines.specs.Fits.{Fits, Lendable};
 
 // The most bytes that a table's text may have here.
 const TEXT: usize = 5000;
@@ -136,7 +136,7 @@ fn read_text(line: &[u8], at: usize) -> Text
 
 // Reads a line.
 pub fn read_line(line: &[u8]) -> Asked
-    ensures { λ r. ⌜ Lendable (r .rooms) × Counts (r .count) (r .bytes) ⌝ }
+    ensures { λ r. ⌜ Fits r ⌝ }
 {
     let kind = read_number(line, 0);
     let first = read_first(kind.value, line, kind.behind);

@@ -1,5 +1,5 @@
 -- `scheduling::work_out` meets its contract: a refusal leaves everything as it was, and elsewhere all is noted and the buffers are cleared.
-use mathlib.Core.Path.{_≡_, refl, sym, ap}
+use mathlib.Core.Path.{_≡_, refl, sym, ap, _∙_}
 use native.Mathlib.Omega.{arith}
 use borrow.Author.Needs.{needs}
 use lib.ListN.{length}
@@ -51,32 +51,35 @@ answer-all-requires c κs =
 clear-all-requires : tie.Need-clear-all-requires
 clear-all-requires c κs = search needs
 
--- the six buffers keep their lengths
+-- the notes from behind the clearing, and that from the end: the six buffers keep their lengths
 abbrev noted : tie.After-clear-all → tie.After-answer-all
 noted c =
     c .before .before .before .before .before .before .before .before .before .before .before .before .before .before .before .before .before .before .before
 
+abbrev last : tie.After-slice-known18 → tie.After-clear-all
+last c = c .before .before .before .before .before .before .before .before .before .before .before .before
+
 same-length : tie.Need-same-length
-same-length c = search needs
+same-length c = last c .clear-all .kept .0 ∙ noted (last c) .answer-all .kept .1 .1 .0
 
 same-length-2 : tie.Need-same-length-2
-same-length-2 c = search needs
+same-length-2 c = last c .clear-all .kept .1 .0 ∙ noted (last c) .answer-all .kept .1 .1 .1 .0
 
 same-length-3 : tie.Need-same-length-3
-same-length-3 c = search needs
+same-length-3 c = last c .clear-all .kept .1 .1 .0 ∙ noted (last c) .answer-all .kept .1 .1 .1 .1 .0
 
 same-length-4 : tie.Need-same-length-4
-same-length-4 c = search needs
+same-length-4 c = last c .clear-all .kept .1 .1 .1 .0 ∙ noted (last c) .answer-all .kept .1 .1 .1 .1 .1 .0
 
 same-length-5 : tie.Need-same-length-5
-same-length-5 c = search needs
+same-length-5 c = last c .clear-all .kept .1 .1 .1 .1 .0 ∙ noted (last c) .answer-all .kept .1 .1 .1 .1 .1 .1 .0
 
 same-length-6 : tie.Need-same-length-6
-same-length-6 c = search needs
+same-length-6 c = last c .clear-all .kept .1 .1 .1 .1 .1 .0 ∙ noted (last c) .answer-all .kept .1 .1 .1 .1 .1 .1 .1 .0
 
 returns-2 : tie.Need-returns-2
 returns-2 c =
-    let cleared = c .before .before .before .before .before .before .before .before .before .before .before .before in
+    let cleared = last c in
     let n = noted cleared in
     let o = opened (branch n) in
     let a = start o .args in

@@ -1,167 +1,121 @@
+-- `text_buffers::lending::lend` keeps to its arrays: no more of each is lent than it has.
 use mathlib.Core.Path.{sym}
-use native.Mathlib.Omega.{arith}
 use lib.Seq.{length-take-le}
 use borrow.Author.Needs.{needs}
 use Rattle.text_buffers.proofs.lending.lend.Statement.{statement}
 use Rattle.text_buffers.proofs.lending.lend.Tie as tie
-use Rattle.text_buffers.proofs.lending.lend.Reads as reads
-use Rattle.text_buffers.proofs.lending.lend.Lts as lts
-use Rattle.text_buffers.proofs.lending.fresh.Reads as fresh-reads
-use Rattle.text_buffers.proofs.lending.look.Reads as look-reads
-use Rattle.text_buffers.proofs.lending.of_analysis.Reads as of-analysis-reads
-use Rattle.text_buffers.proofs.lending.of_who.Reads as of-who-reads
-use Rattle.scheduling.proofs.analyse.Reads as analyse-reads
-use Rattle.scheduling.proofs.who_at.Reads as who-at-reads
 
--- src/lib.rt:127:20
 fresh-requires : tie.Need-fresh-requires
 fresh-requires c κs = search needs
 
--- src/lib.rt:137:17
 enum-told : tie.Need-enum-told
 enum-told c = search needs
 
--- src/lib.rt:137:17
 array-borrow-prefix-free : tie.Need-array-borrow-prefix-free
 array-borrow-prefix-free c = search needs
 
--- src/lib.rt:137:17
 slice-aggregate-analyse : tie.Need-slice-aggregate-analyse
-slice-aggregate-analyse c = sym (length-take-le _ _ (omega arith))
+slice-aggregate-analyse c = sym (length-take-le _ _ (array-borrow-prefix-free (c .before)))
 
--- src/lib.rt:138:17
 array-borrow-prefix-sum : tie.Need-array-borrow-prefix-sum
 array-borrow-prefix-sum c = search needs
 
--- src/lib.rt:138:17
 slice-aggregate-analyse-2 : tie.Need-slice-aggregate-analyse-2
-slice-aggregate-analyse-2 c = sym (length-take-le _ _ (omega arith))
+slice-aggregate-analyse-2 c = sym (length-take-le _ _ (array-borrow-prefix-sum (c .before)))
 
--- src/lib.rt:139:17
 array-borrow-prefix-part : tie.Need-array-borrow-prefix-part
 array-borrow-prefix-part c = search needs
 
--- src/lib.rt:139:17
 slice-aggregate-analyse-3 : tie.Need-slice-aggregate-analyse-3
-slice-aggregate-analyse-3 c = sym (length-take-le _ _ (omega arith))
+slice-aggregate-analyse-3 c = sym (length-take-le _ _ (array-borrow-prefix-part (c .before)))
 
--- src/lib.rt:140:17
 array-borrow-prefix-held : tie.Need-array-borrow-prefix-held
 array-borrow-prefix-held c = search needs
 
--- src/lib.rt:140:17
 slice-aggregate-analyse-4 : tie.Need-slice-aggregate-analyse-4
-slice-aggregate-analyse-4 c = sym (length-take-le _ _ (omega arith))
+slice-aggregate-analyse-4 c = sym (length-take-le _ _ (array-borrow-prefix-held (c .before)))
 
--- src/lib.rt:141:17
 array-borrow-prefix-running : tie.Need-array-borrow-prefix-running
 array-borrow-prefix-running c = search needs
 
--- src/lib.rt:141:17
 slice-aggregate-analyse-5 : tie.Need-slice-aggregate-analyse-5
-slice-aggregate-analyse-5 c = sym (length-take-le _ _ (omega arith))
+slice-aggregate-analyse-5 c = sym (length-take-le _ _ (array-borrow-prefix-running (c .before)))
 
--- src/lib.rt:142:17
 array-borrow-prefix-spare : tie.Need-array-borrow-prefix-spare
 array-borrow-prefix-spare c = search needs
 
--- src/lib.rt:142:17
 slice-aggregate-analyse-6 : tie.Need-slice-aggregate-analyse-6
-slice-aggregate-analyse-6 c = sym (length-take-le _ _ (omega arith))
+slice-aggregate-analyse-6 c = sym (length-take-le _ _ (array-borrow-prefix-spare (c .before)))
 
--- src/lib.rt:135:13
 analyse-requires : tie.Need-analyse-requires
 analyse-requires c κs = search needs
 
--- src/lib.rt:134:26
 of-analysis-requires : tie.Need-of-analysis-requires
 of-analysis-requires c κs = search needs
 
--- src/lib.rt:145:21
 enum-known-call : tie.Need-enum-known-call
 enum-known-call c = search needs
 
--- src/lib.rt:149:17
 array-borrow-prefix-free-2 : tie.Need-array-borrow-prefix-free-2
 array-borrow-prefix-free-2 c = search needs
 
--- src/lib.rt:149:17
 slice-aggregate-who-at : tie.Need-slice-aggregate-who-at
-slice-aggregate-who-at c = sym (length-take-le _ _ (omega arith))
+slice-aggregate-who-at c = sym (length-take-le _ _ (array-borrow-prefix-free-2 (c .before)))
 
--- src/lib.rt:150:17
 array-borrow-prefix-sum-2 : tie.Need-array-borrow-prefix-sum-2
 array-borrow-prefix-sum-2 c = search needs
 
--- src/lib.rt:150:17
 slice-aggregate-who-at-2 : tie.Need-slice-aggregate-who-at-2
-slice-aggregate-who-at-2 c = sym (length-take-le _ _ (omega arith))
+slice-aggregate-who-at-2 c = sym (length-take-le _ _ (array-borrow-prefix-sum-2 (c .before)))
 
--- src/lib.rt:151:17
 array-borrow-prefix-part-2 : tie.Need-array-borrow-prefix-part-2
 array-borrow-prefix-part-2 c = search needs
 
--- src/lib.rt:151:17
 slice-aggregate-who-at-3 : tie.Need-slice-aggregate-who-at-3
-slice-aggregate-who-at-3 c = sym (length-take-le _ _ (omega arith))
+slice-aggregate-who-at-3 c = sym (length-take-le _ _ (array-borrow-prefix-part-2 (c .before)))
 
--- src/lib.rt:152:17
 array-borrow-prefix-held-2 : tie.Need-array-borrow-prefix-held-2
 array-borrow-prefix-held-2 c = search needs
 
--- src/lib.rt:152:17
 slice-aggregate-who-at-4 : tie.Need-slice-aggregate-who-at-4
-slice-aggregate-who-at-4 c = sym (length-take-le _ _ (omega arith))
+slice-aggregate-who-at-4 c = sym (length-take-le _ _ (array-borrow-prefix-held-2 (c .before)))
 
--- src/lib.rt:153:17
 array-borrow-prefix-running-2 : tie.Need-array-borrow-prefix-running-2
 array-borrow-prefix-running-2 c = search needs
 
--- src/lib.rt:153:17
 slice-aggregate-who-at-5 : tie.Need-slice-aggregate-who-at-5
-slice-aggregate-who-at-5 c = sym (length-take-le _ _ (omega arith))
+slice-aggregate-who-at-5 c = sym (length-take-le _ _ (array-borrow-prefix-running-2 (c .before)))
 
--- src/lib.rt:154:17
 array-borrow-prefix-spare-2 : tie.Need-array-borrow-prefix-spare-2
 array-borrow-prefix-spare-2 c = search needs
 
--- src/lib.rt:154:17
 slice-aggregate-who-at-6 : tie.Need-slice-aggregate-who-at-6
-slice-aggregate-who-at-6 c = sym (length-take-le _ _ (omega arith))
+slice-aggregate-who-at-6 c = sym (length-take-le _ _ (array-borrow-prefix-spare-2 (c .before)))
 
--- src/lib.rt:146:13
 who-at-requires : tie.Need-who-at-requires
 who-at-requires c κs = search needs
 
--- src/lib.rt:145:30
 of-who-requires : tie.Need-of-who-requires
 of-who-requires c κs = search needs
 
--- src/lib.rt:159:9
 look-requires : tie.Need-look-requires
 look-requires c κs = search needs
 
--- src/lib.rt:160:9
 look-requires-2 : tie.Need-look-requires-2
 look-requires-2 c κs = search needs
 
--- src/lib.rt:161:9
 look-requires-3 : tie.Need-look-requires-3
 look-requires-3 c κs = search needs
 
--- src/lib.rt:162:9
 look-requires-4 : tie.Need-look-requires-4
 look-requires-4 c κs = search needs
 
--- src/lib.rt:163:9
 look-requires-5 : tie.Need-look-requires-5
 look-requires-5 c κs = search needs
 
--- src/lib.rt:164:9
 look-requires-6 : tie.Need-look-requires-6
 look-requires-6 c κs = search needs
 
--- src/lib.rt:115:1
 returns : tie.Need-returns
 returns c = search needs
 
