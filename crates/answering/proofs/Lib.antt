@@ -1,4 +1,3 @@
-pub mod Noting
 pub mod FreeCurves
 pub mod Answering
 pub mod Marked

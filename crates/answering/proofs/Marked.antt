@@ -9,7 +9,7 @@ use lib.Dec.{ltb}
 use borrow.Author.Tests.{lt-ltb}
 use Rattle.basics.specs.Choice.{pick}
 use Rattle.table.specs.Places.{firstOf}
-use Rattle.answering.specs.Noted.{Noted}
+use Rattle.noting.specs.Noted.{Noted}
 
 -- tests that agree find the same place
 same-first : (p q : ℕ → Bool) (k i : ℕ) → ((u : ℕ) → u < i + k → p u ≡ q u) → firstOf p k i ≡ firstOf q k i

@@ -1,42 +1,22 @@
--- What has been noted so far, place by place.
+-- What is noted of the servers, and of all.
 use Prim.Native.Nat.{ℕ}
 use mathlib.Core.Path.{_≡_}
-use mathlib.Core.List.{List}
-use mathlib.Core.Bool.{Bool, false, _&&_}
-use lib.ListN.{length, getD, replicate}
+use mathlib.Core.Bool.{Bool, false}
+use lib.ListN.{length, replicate}
 use lib.Dec.{ltb}
-use Rattle.basics.specs.Choice.{pick}
 use Rattle.windows.specs.Windows.{cover}
-use Rattle.table.specs.Places.{taskAt}
 use Rattle.table.specs.declared.Table.{Table}
-use Rattle.schedule.specs.Curves.{heldOf, runningOf}
-use Rattle.answers.specs.Answers.{serverAnswer, noServerAnswer, serverAnswers, taskAnswer, noTaskAnswer, taskAnswers}
+use Rattle.schedule.specs.Curves.{heldOf}
+use Rattle.answers.specs.Answers.{serverAnswer, noServerAnswer, serverAnswers, noTaskAnswer, taskAnswers}
+use Rattle.noting.specs.Noted.{Noted, runsAt}
 use Rattle.answering.specs.declared.ServerNotes.{ServerNotes}
-use Rattle.answering.specs.declared.TaskNotes.{TaskNotes}
 use Rattle.answering.specs.declared.Notes.{Notes}
 
--- of a list, what belongs to the places that pass a test is there, and the others are empty
-pub record Noted {A : Type 0} (f : ℕ → A) (empty : A) (test : ℕ → Bool) (l : List A) : Type 0 where
-  pub each : (k : ℕ) → getD l k empty ≡ pick (test k) (f k) empty
-
--- whether a task of a server whose number is below s is at a place
-abbrev pub ofBelow : Table → ℕ → ℕ → Bool
-ofBelow table s k = ltb k (table .«tasks_n») && ltb (taskAt table k .server) s
-
--- whether the server at place i holds a tick, and whether the task at place j runs in it
+-- whether the server at place i holds a tick
 abbrev pub holdsAt : Table → ℕ → ℕ → Bool
 holdsAt table t i = ltb 0 (cover (heldOf table i) t)
 
-abbrev pub runsAt : Table → ℕ → ℕ → Bool
-runsAt table t j = ltb 0 (cover (runningOf table j) t)
-
--- the tasks at the places that pass a test are noted
-pub record TasksNoted (table : Table) (tick : ℕ) (test : ℕ → Bool) (notes : TaskNotes) : Type 0 where
-  pub all : length (notes .answers) ≡ 64
-  pub answered : Noted (taskAnswer table) noTaskAnswer test (notes .answers)
-  pub marks : length (notes .runs) ≡ 64
-  pub marked : Noted (runsAt table tick) false test (notes .runs)
-
+-- the servers at the places that pass a test are noted
 pub record ServersNoted (table : Table) (tick : ℕ) (test : ℕ → Bool) (notes : ServerNotes) : Type 0 where
   pub all : length (notes .answers) ≡ 16
   pub answered : Noted (serverAnswer table) noServerAnswer test (notes .answers)

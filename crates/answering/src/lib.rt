@@ -5,24 +5,17 @@ use answers::Short;
 use answers::TaskAnswer;
 use buffers::put;
 use judging::covering::covers;
-use judging::jobs::judge;
 use judging::periods::answer_server;
+use noting::TaskNotes;
+use noting::answer_tasks;
 use serving::hold_server;
-use serving::share;
 use table::Table;
 ghost use mathlib.Core.Path.{_≡_};
 ghost use mathlib.Core.Bool.{false};
-ghost use Prim.Native.Nat.{suc, ℕ, _+_, _≤_, _<_};
-ghost use lib.ListN.{length, take, getD};
+ghost use Prim.Native.Nat.{_≤_};
+ghost use lib.ListN.{length, getD};
 ghost use Rattle.table.specs.Places.{Obeyed, firstOf};
-ghost use Rattle.schedule.specs.Curves.{heldOf};
-ghost use Rattle.answering.specs.Noted.{NoNotes, TasksNoted, AllNoted, ofBelow};
-
-// What is noted of the tasks: each one's answer, and whether it runs in the tick asked for. Those not yet looked at are `None` and false.
-pub struct TaskNotes {
-    pub answers: [TaskAnswer; 64],
-    pub runs: [bool; 64],
-}
+ghost use Rattle.answering.specs.Noted.{NoNotes, AllNoted};
 
 // What is noted of the servers: each one's answer, and whether it holds the tick asked for.
 pub struct ServerNotes {
@@ -55,46 +48,6 @@ pub fn no_notes() -> Notes
         runs: [false; 64],
     };
     Notes { servers, tasks }
-}
-
-// Notes the tasks of the server with a number. The first `n` numbers of `held` are its held ticks.
-fn answer_tasks(
-    table: Table,
-    tick: u32,
-    server: u32,
-    n: usize,
-    held: &mut [u32],
-    part: &mut [u32],
-    running: &mut [u32],
-    spare: &mut [u32],
-    old: TaskNotes,
-) -> TaskNotes
-    requires { ⌜ Obeyed table × ((i : ℕ) → server ≡ suc i → (i < table .«servers_n») × (take n (now held) ≡ heldOf table i)) × (0 < server)
-        × (n ≤ length (now held)) × (16000 ≤ length (now held)) × (16000 ≤ length (now part)) × (16000 ≤ length (now running))
-        × (16000 ≤ length (now spare)) × TasksNoted table tick (ofBelow table server) old ⌝ }
-    ensures { λ r. ⌜ TasksNoted table tick (ofBelow table (server + 1)) r × (length (now (held .exit)) ≡ length (now (held .entry)))
-        × (length (now (part .exit)) ≡ length (now (part .entry))) × (length (now (running .exit)) ≡ length (now (running .entry)))
-        × (length (now (spare .exit)) ≡ length (now (spare .entry))) ⌝ }
-{
-    let count = table.tasks_n;
-    let span = table.span;
-    let mut answers = old.answers;
-    let mut runs = old.runs;
-    let mut left = n;
-    let mut j: usize = 0;
-    while j < count {
-        let task = table.tasks[j];
-        if task.server == server {
-            let shares = share(task, span, left, held, part, running, spare);
-            let k = shares.running;
-            let response = judge(task, span, &running[..k]);
-            answers[j] = TaskAnswer { response };
-            runs[j] = covers(&running[..k], tick);
-            left = shares.left;
-        }
-        j += 1;
-    }
-    TaskNotes { answers, runs }
 }
 
 // Notes the servers and their tasks, going down the servers.

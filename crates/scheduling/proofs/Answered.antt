@@ -6,7 +6,8 @@ use mathlib.Core.Bool.{Bool}
 use native.Mathlib.Omega.{arith}
 use borrow.Author.Tests.{lt-leb}
 use Rattle.reading.specs.Reading.{readingOf}
-use Rattle.answering.specs.Noted.{holdsAt, runsAt}
+use Rattle.answering.specs.Noted.{holdsAt}
+use Rattle.noting.specs.Noted.{runsAt}
 use Rattle.answering.proofs.Marked.{marked-first, unmarked-first}
 use Rattle.scheduling.specs.declared.Worked.{Worked}
 use Rattle.scheduling.specs.Working.{Works, toldBy, listedBy}

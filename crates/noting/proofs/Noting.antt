@@ -14,7 +14,7 @@ use Rattle.table.specs.declared.Table.{Table}
 use Rattle.table.specs.Places.{taskAt}
 use Rattle.answers.specs.Answers.{entries}
 use Rattle.answers.proofs.Entries.{entries-are}
-use Rattle.answering.specs.Noted.{Noted, ofBelow}
+use Rattle.noting.specs.Noted.{Noted, ofBelow}
 
 -- ---- lists
 

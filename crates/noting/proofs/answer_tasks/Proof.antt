@@ -1,4 +1,4 @@
--- `answering::answer_tasks` meets its contract: a walk along the tasks, on the ticks that those before leave.
+-- `noting::answer_tasks` meets its contract: a walk along the tasks, on the ticks that those before leave.
 use Prim.Native.Nat.{_-_, _<_}
 use mathlib.Core.Path.{_≡_, refl, sym, _∙_}
 use mathlib.Core.Logic.{⊎-elim}
@@ -10,9 +10,9 @@ use Rattle.schedule.specs.Curves.{heldOf}
 use Rattle.table.proofs.Obeyed.{tasks-most, span-some, span-most, task-deadline}
 use Rattle.demands.proofs.Sums.{task-obeyed}
 use Rattle.serving.proofs.LeftTicks.{left-all, left-curve, served-plain}
-use Rattle.answering.proofs.Answering.{Answering, answering-starts, answering-other, answering-own, answering-ends, answer-place, mark-place}
-use Rattle.answering.proofs.answer_tasks.Statement.{statement}
-use Rattle.answering.proofs.answer_tasks.Tie as tie
+use Rattle.noting.proofs.Answering.{Answering, answering-starts, answering-other, answering-own, answering-ends, answer-place, mark-place}
+use Rattle.noting.proofs.answer_tasks.Statement.{statement}
+use Rattle.noting.proofs.answer_tasks.Tie as tie
 
 abbrev Inv-loop : tie.InvT-loop
 Inv-loop tick server n held₀ part₀ running₀ spare₀ table count span answers₀ runs₀ left₀ j₀ held part running spare answers runs left j =
