@@ -118,25 +118,25 @@ module _ (sep : ℕ) where
 
 -- ---- field after field: k of the line's fields have been passed, and rest is behind them
 
-pub record Passed (line : List ℕ) (skip : ℕ) (rest : List ℕ) (k : ℕ) : Type 0 where
+pub record Behind (line : List ℕ) (skip : ℕ) (rest : List ℕ) (k : ℕ) : Type 0 where
   pub low : k ≤ skip
   pub short : length rest ≤ length line
   pub some : skip - k < length (split 9 rest)
   pub same : getD (split 9 rest) (skip - k) [] ≡ getD (split 9 line) skip []
 
-pub passed-none : (line : List ℕ) (skip : ℕ) → skip < length (split 9 line) → Passed line skip line 0
-passed-none line skip h =
+pub behind-none : (line : List ℕ) (skip : ℕ) → skip < length (split 9 line) → Behind line skip line 0
+behind-none line skip h =
     let e : skip - 0 ≡ skip = omega arith in
     record { low = omega arith; short = omega arith; some = omega arith; same = rw e }
 
 -- a tab lies behind the next field, and behind that is what is left
-pub passed-tab : {line rest : List ℕ} {skip k : ℕ} → Passed line skip rest k → k < skip → firstLength 9 rest < length rest
-passed-tab {line} {rest} {skip} {k} p h = split-more 9 rest (omega (arith, p .some))
+pub behind-tab : {line rest : List ℕ} {skip k : ℕ} → Behind line skip rest k → k < skip → firstLength 9 rest < length rest
+behind-tab {line} {rest} {skip} {k} p h = split-more 9 rest (omega (arith, p .some))
 
-pub passed-more : {line rest : List ℕ} {skip k : ℕ} → Passed line skip rest k → k < skip → Passed line skip (drop (firstLength 9 rest + 1) rest) (k + 1)
-passed-more {line} {rest} {skip} {k} p h =
+pub behind-more : {line rest : List ℕ} {skip k : ℕ} → Behind line skip rest k → k < skip → Behind line skip (drop (firstLength 9 rest + 1) rest) (k + 1)
+behind-more {line} {rest} {skip} {k} p h =
     let n = firstLength 9 rest in
-    let e : split 9 rest ≡ take n rest ∷ split 9 (drop (n + 1) rest) = split-first 9 rest (passed-tab p h) in
+    let e : split 9 rest ≡ take n rest ∷ split 9 (drop (n + 1) rest) = split-first 9 rest (behind-tab p h) in
     let m : skip - k ≡ suc (skip - (k + 1)) = omega arith in
     record {
       low = omega arith;
@@ -145,8 +145,8 @@ passed-more {line} {rest} {skip} {k} p h =
       same = rw (m, e) at (p .same);
     }
 
-pub passed-all : {line rest : List ℕ} {skip k : ℕ} → Passed line skip rest k → skip ≤ k → take (firstLength 9 rest) rest ≡ getD (split 9 line) skip []
-passed-all {line} {rest} {skip} {k} p h =
+pub behind-all : {line rest : List ℕ} {skip k : ℕ} → Behind line skip rest k → skip ≤ k → take (firstLength 9 rest) rest ≡ getD (split 9 line) skip []
+behind-all {line} {rest} {skip} {k} p h =
     let e : skip - k ≡ 0 = omega arith in
     sym (split-head 9 rest) ∙ (rw e at (p .same))
 

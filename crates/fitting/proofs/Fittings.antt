@@ -9,7 +9,7 @@ use lib.ListN.{length, take, drop, set, length-drop}
 use lib.Dec.{leb}
 use lib.Seq.{take-all}
 use borrow.Author.Tests.{leb-true, le-leb}
-use Rattle.windows.specs.Windows.{isPlain, endOf, Fit, passed, fit}
+use Rattle.windows.specs.Windows.{isPlain, endOf, Fit, leaving, fit}
 use Rattle.windows.specs.Walks.{servedFirst, restFirst}
 use Rattle.basics.proofs.Tests.{and-left, and-right}
 use Rattle.windows.proofs.Ticks.{plain-end}
@@ -52,7 +52,7 @@ pub fit-counted : (whole : Fit) (left served rest : ℕ) → FitCounted whole wh
 fit-counted whole left served rest = record { in-left = counted-none _ left; in-served = counted-none _ served; in-rest = counted-none _ rest }
 
 module _ {whole o m : Fit} {left served rest l s r a b : ℕ} (c : FitCounted whole o left served rest l s r) where
-  pub count-left : o ≡ passed a b m → 2 ≤ l → FitCounted whole m left served rest (l - 2) s r
+  pub count-left : o ≡ leaving a b m → 2 ≤ l → FitCounted whole m left served rest (l - 2) s r
   count-left e h =
       let d = rw e at c in
       record { in-left = counted-pair (d .in-left) refl h; in-served = d .in-served; in-rest = d .in-rest }
@@ -67,7 +67,7 @@ module _ {whole o m : Fit} {left served rest l s r a b : ℕ} (c : FitCounted wh
       let d = rw e at c in
       record { in-left = d .in-left; in-served = d .in-served; in-rest = counted-pair (d .in-rest) refl h }
 
-  pub over-left : o ≡ passed a b m → l < 2 → fitRooms whole left served rest ≡ false
+  pub over-left : o ≡ leaving a b m → l < 2 → fitRooms whole left served rest ≡ false
   over-left e h = let d = rw e at c in rw (counted-over (d .in-left) refl h)
 
   pub over-served : o ≡ servedFirst a b m → s < 2 → fitRooms whole left served rest ≡ false
@@ -103,7 +103,7 @@ fit-written whole left served rest h =
     }
 
 module _ {whole o m : Fit} {left₀ served₀ rest₀ left served rest : List ℕ} {l s r a b : ℕ} (c : FitWritten whole o left₀ served₀ rest₀ left served rest l s r) where
-  pub room-left : o ≡ passed a b m → l + 1 < length left
+  pub room-left : o ≡ leaving a b m → l + 1 < length left
   room-left e = written-room ((rw e at c) .in-left) refl
 
   pub room-served : o ≡ servedFirst a b m → s + 1 < length served
@@ -112,7 +112,7 @@ module _ {whole o m : Fit} {left₀ served₀ rest₀ left served rest : List �
   pub room-rest : o ≡ restFirst a b m → r + 1 < length rest
   room-rest e = written-room ((rw e at c) .in-rest) refl
 
-  pub write-left : o ≡ passed a b m → FitWritten whole m left₀ served₀ rest₀ (set (set left l a) (l + 1) b) served rest (l + 2) s r
+  pub write-left : o ≡ leaving a b m → FitWritten whole m left₀ served₀ rest₀ (set (set left l a) (l + 1) b) served rest (l + 2) s r
   write-left e =
       let d = rw e at c in
       record { in-left = written-pair (d .in-left) refl; in-served = d .in-served; in-rest = d .in-rest }

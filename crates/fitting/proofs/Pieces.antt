@@ -5,10 +5,10 @@ use mathlib.Core.List.{List, [], _∷_}
 use mathlib.Core.Bool.{true}
 use native.Mathlib.Omega.{arith}
 use lib.ListN.{length, getD, drop}
-use Rattle.windows.specs.Windows.{isPlain, plainFrom, passed}
+use Rattle.windows.specs.Windows.{isPlain, plainFrom, leaving}
 use Rattle.windows.specs.Walks.{raise, servedFirst, restFirst}
 use Rattle.windows.proofs.Ticks.{plain-apart, window-some, window-none}
-use Rattle.windows.proofs.Fitting.{fit-no-demand, fit-passed}
+use Rattle.windows.proofs.Fitting.{fit-no-demand, fit-leaving}
 use Rattle.windows.proofs.Stretching.{fit-unwanted, fit-unserved, fit-side, raise-none}
 use Rattle.fitting.specs.Steps.{fitAhead, InFit, Goes, Stretches}
 use Rattle.fitting.specs.declared.Place.{Place}
@@ -31,7 +31,7 @@ module _ {d s : List ℕ} {w : Place} (p : InFit d s w) where
 
   -- nothing is wanted
   pub piece-unwanted : length d ≤ w .at → Ahead s 0 (w .free)
-      → Goes d s w (passed (max (getD s 0 0) (w .free)) (getD s 1 0)) 2 (record { at = w .at; wanted = w .wanted; free = 0 })
+      → Goes d s w (leaving (max (getD s 0 0) (w .free)) (getD s 1 0)) 2 (record { at = w .at; wanted = w .wanted; free = 0 })
   piece-unwanted h a =
       record {
         is = rw (a .is, raise-none (drop 2 s), ahead-none d (w .at) (w .wanted) h) (fit-unwanted _ _ (drop 2 s));
@@ -55,21 +55,20 @@ module _ {d s : List ℕ} {w : Place} (p : InFit d s w) where
 
     module _ (a : Ahead s 0 (w .free)) where
       -- the supply window ends before the demand starts
-      pub piece-passed : getD s 1 0 ≤ max (getD d (w .at) 0) (w .wanted)
-          → Goes d s w (passed (max (getD s 0 0) (w .free)) (getD s 1 0)) 2 (record { at = w .at; wanted = w .wanted; free = 0 })
-      piece-passed h =
+      pub piece-leaves : getD s 1 0 ≤ max (getD d (w .at) 0) (w .wanted)
+          → Goes d s w (leaving (max (getD s 0 0) (w .free)) (getD s 1 0)) 2 (record { at = w .at; wanted = w .wanted; free = 0 })
+      piece-leaves h =
           record {
-            is = rw (a .is, b .is, raise-none (drop 2 s)) (fit-passed _ _ _ _ (drop (w .at + 2) d) (drop 2 s) h);
+            is = rw (a .is, b .is, raise-none (drop 2 s)) (fit-leaving _ _ _ _ (drop (w .at + 2) d) (drop 2 s) h);
             within = omega (arith, a .pair);
             small = omega arith;
             plain = record { demand = p .demand; supply = rw (raise-none (drop 2 s)) (a .later) };
           }
 
-      -- the supply starts before the demand
-      pub piece-side : max (getD d (w .at) 0) (w .wanted) < getD s 1 0 → max (getD s 0 0) (w .free) < max (getD d (w .at) 0) (w .wanted)
-          → Goes d s w (passed (max (getD s 0 0) (w .free)) (max (getD d (w .at) 0) (w .wanted))) 0
+      side-left : max (getD d (w .at) 0) (w .wanted) < getD s 1 0 → max (getD s 0 0) (w .free) < max (getD d (w .at) 0) (w .wanted)
+          → Goes d s w (leaving (max (getD s 0 0) (w .free)) (max (getD d (w .at) 0) (w .wanted))) 0
           (record { at = w .at; wanted = w .wanted; free = max (getD d (w .at) 0) (w .wanted) })
-      piece-side h k =
+      side-left h k =
           let q = max (getD d (w .at) 0) (w .wanted) in
           record {
             is = rw (a .is, b .is, ahead-raised s 0 (w .free) q a (omega arith)) (fit-side q _ _ _ (drop (w .at + 2) d) (drop 2 s) k h);
@@ -77,6 +76,11 @@ module _ {d s : List ℕ} {w : Place} (p : InFit d s w) where
             small = omega arith;
             plain = record { demand = p .demand; supply = plain-raised s 0 (w .free) q a (omega arith) h };
           }
+
+      -- the supply starts before the demand, at q
+      pub piece-side : {q start : ℕ} → q ≡ max (getD d (w .at) 0) (w .wanted) → start ≡ max (getD s 0 0) (w .free) → q < getD s 1 0 → start < q
+          → Goes d s w (leaving start q) 0 (record { at = w .at; wanted = w .wanted; free = q })
+      piece-side e f h k = rw (e, f) (side-left (rw e at h) (rw (e, f) at k))
 
       -- demand is served, and supply is left behind it
       pub piece-served : {r : Stretch} → Stretches d w (max (getD s 0 0) (w .free)) (getD s 1 0) r → r .till < getD s 1 0

@@ -5,7 +5,7 @@ use mathlib.Core.List.{List, [], _∷_}
 use mathlib.Core.Bool.{Bool, true, _&&_}
 use lib.ListN.{length, getD, drop}
 use lib.Dec.{leb}
-use Rattle.windows.specs.Windows.{isPlain, plainFrom, window, Fit, passed, fit}
+use Rattle.windows.specs.Windows.{isPlain, plainFrom, window, Fit, leaving, fit}
 use Rattle.windows.specs.Walks.{raise, servedFirst, restFirst}
 use Rattle.fitting.specs.declared.Place.{Place}
 use Rattle.fitting.specs.declared.Stretch.{Stretch}
@@ -38,7 +38,7 @@ pub record Goes (d s : List ℕ) (w : Place) (front : Fit → Fit) (k : ℕ) (v 
   pub plain : InFit d (drop k s) v
 
 abbrev pub FitGives : List ℕ → List ℕ → Place → Fitting → Type 0
-FitGives d s w (fitting.Left a b k v) = Goes d s w (passed a b) k v
+FitGives d s w (fitting.Left a b k v) = Goes d s w (leaving a b) k v
 FitGives d s w (fitting.Served a b k v) = Goes d s w (servedFirst a b) k v
 FitGives d s w (fitting.Rest a b k v) = Goes d s w (restFirst a b) k v
 FitGives d s w fitting.Done = fitAhead d s w ≡ record { left = []; served = []; rest = [] }

@@ -12,11 +12,11 @@ use Rattle.holding.specs.declared.Place.{Place}
 use Rattle.holding.specs.declared.Piece.{Piece}
 
 -- the ticks of a free curve that a demand takes, at most C in each period of T ticks, and those that it leaves
-abbrev pub taken : ℕ → ℕ → List ℕ → List ℕ → ℕ → ℕ
-taken C T demand free = held C T (cover demand) (cover free)
+abbrev pub heldOf : ℕ → ℕ → List ℕ → List ℕ → ℕ → ℕ
+heldOf C T demand free = held C T (cover demand) (cover free)
 
-abbrev pub untaken : ℕ → ℕ → List ℕ → List ℕ → ℕ → ℕ
-untaken C T demand free t = cover free t - taken C T demand free t
+abbrev pub leftOf : ℕ → ℕ → List ℕ → List ℕ → ℕ → ℕ
+leftOf C T demand free t = cover free t - heldOf C T demand free t
 
 -- before the first tick, with no period under way
 abbrev pub firstPlace : List ℕ → Place
@@ -43,7 +43,7 @@ pub record Offered (demand : List ℕ) (w : Place) (end : ℕ) : Type 0 where
   pub wants : w .demand < length demand → w .wanted < getD demand (w .demand + 1) 0
 
 -- the ticks up to `stop` can be held: the demand has come, and the window of demand, the period and the budget allow as many
-pub record Takes (demand : List ℕ) (w : Place) (stop : ℕ) : Type 0 where
+pub record Holds (demand : List ℕ) (w : Place) (stop : ℕ) : Type 0 where
   pub some : w .at < stop
   pub pair : w .demand + 1 < length demand
   pub come : w .wanted ≤ w .at
@@ -60,8 +60,8 @@ pub data Leaves (demand : List ℕ) (w : Place) (stop : ℕ) : Type 0 where
 pub record Cuts (demand : List ℕ) (w : Place) (end : ℕ) (r : Piece) : Type 0 where
   pub some : w .at < r .stop
   pub within : r .stop ≤ end
-  pub takes : r .taken ≡ true → Takes demand w (r .stop)
-  pub leaves : r .taken ≡ false → Leaves demand w (r .stop)
+  pub holds : r .held ≡ true → Holds demand w (r .stop)
+  pub leaves : r .held ≡ false → Leaves demand w (r .stop)
 
 -- a window of demand is left in part, or used up and the next one follows
 pub data Moved (demand : List ℕ) (w : Place) (stop : ℕ) (r : Place) : Type 0 where
@@ -75,7 +75,7 @@ pub record Served (demand : List ℕ) (w : Place) (stop : ℕ) (r : Place) : Typ
   pub budget : r .budget + stop ≡ w .budget + w .at
   pub moved : Moved demand w stop r
 
-pub record Passed (w : Place) (stop : ℕ) (r : Place) : Type 0 where
+pub record Skipped (w : Place) (stop : ℕ) (r : Place) : Type 0 where
   pub demand : r .demand ≡ w .demand
   pub wanted : r .wanted ≡ w .wanted
   pub there : r .at ≡ stop

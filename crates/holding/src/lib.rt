@@ -6,7 +6,7 @@ ghost use mathlib.Core.Path.{_≡_};
 ghost use Prim.Native.Nat.{_+_, _-_, _%_, _≤_, _<_};
 ghost use lib.ListN.{length, getD};
 ghost use Rattle.buffers.specs.Parts.{PlainBelow, Drawn};
-ghost use Rattle.holding.specs.Pieces.{taken, untaken, firstPlace, windowBehind, Entered, Offered, Takes, Cuts, Served, Passed};
+ghost use Rattle.holding.specs.Pieces.{heldOf, leftOf, firstPlace, windowBehind, Entered, Offered, Holds, Cuts, Served, Skipped};
 
 // Where the walk stands: every tick below `at` is decided, the demand not yet served starts at `wanted`, in the window at `demand`; the period
 // under way ends at `until` and has `budget` left.
@@ -21,7 +21,7 @@ struct Place {
 // What comes next of a free window, up to `stop`: ticks that are all held or all left.
 struct Piece {
     stop: u32,
-    taken: bool,
+    held: bool,
 }
 
 // How many numbers were written.
@@ -103,18 +103,18 @@ fn next_piece(place: Place, demand: &[u32], end: u32) -> Piece
     if demand.len() <= d {
         return Piece {
             stop: end,
-            taken: false,
+            held: false,
         };
     }
     if place.at < place.wanted {
         let stop = smaller(end, place.wanted);
-        return Piece { stop, taken: false };
+        return Piece { stop, held: false };
     }
     let over = smaller(end, place.until);
     if place.budget == 0 {
         return Piece {
             stop: over,
-            taken: false,
+            held: false,
         };
     }
     let wanted = demand[d + 1] - place.wanted;
@@ -122,13 +122,13 @@ fn next_piece(place: Place, demand: &[u32], end: u32) -> Piece
     let n = smaller(most, over - place.at);
     Piece {
         stop: place.at + n,
-        taken: true,
+        held: true,
     }
 }
 
 // The place behind a piece that is held.
 fn served(place: Place, demand: &[u32], stop: u32) -> Place
-    requires { ⌜ Takes (now demand) place stop ⌝ }
+    requires { ⌜ Holds (now demand) place stop ⌝ }
     ensures { λ r. ⌜ Served (now (demand .entry)) place stop r ⌝ }
 {
     let d = place.demand;
@@ -146,9 +146,10 @@ fn served(place: Place, demand: &[u32], stop: u32) -> Place
             budget,
         };
     }
-    let next = number_at(demand, d + 2);
+    let behind = d + 2;
+    let next = number_at(demand, behind);
     Place {
-        demand: d + 2,
+        demand: behind,
         wanted: next,
         at: stop,
         until,
@@ -157,8 +158,8 @@ fn served(place: Place, demand: &[u32], stop: u32) -> Place
 }
 
 // The place behind a piece that is left.
-fn passed(place: Place, stop: u32) -> Place
-    ensures { λ r. ⌜ Passed place stop r ⌝ }
+fn skipped(place: Place, stop: u32) -> Place
+    ensures { λ r. ⌜ Skipped place stop r ⌝ }
 {
     let mut next = place;
     next.at = stop;
@@ -187,8 +188,8 @@ pub fn hold(
 ) -> Counts
     requires { ⌜ (0 < period) × (period ≤ 16000) × (capacity ≤ 16000) × PlainBelow 16000 (now demand) × PlainBelow 16000 (now free)
         × (16000 ≤ length (now held)) × (16000 ≤ length (now left)) ⌝ }
-    ensures { λ r. ⌜ Drawn (now (held .entry)) (now (held .exit)) (r .held) (taken capacity period (now (demand .entry)) (now (free .entry)))
-        × Drawn (now (left .entry)) (now (left .exit)) (r .left) (untaken capacity period (now (demand .entry)) (now (free .entry))) ⌝ }
+    ensures { λ r. ⌜ Drawn (now (held .entry)) (now (held .exit)) (r .held) (heldOf capacity period (now (demand .entry)) (now (free .entry)))
+        × Drawn (now (left .entry)) (now (left .exit)) (r .left) (leftOf capacity period (now (demand .entry)) (now (free .entry))) ⌝ }
 {
     let mut place = start(demand);
     let mut counts = Counts { held: 0, left: 0 };
@@ -200,12 +201,12 @@ pub fn hold(
         let piece = next_piece(here, demand, end);
         let stop = piece.stop;
         f = next_window(free, f, stop);
-        if piece.taken {
+        if piece.held {
             counts.held = put(held, counts.held, at, stop);
             place = served(here, demand, stop);
         } else {
             counts.left = put(left, counts.left, at, stop);
-            place = passed(here, stop);
+            place = skipped(here, stop);
         }
     }
     counts

@@ -19,7 +19,7 @@ use Rattle.judging.specs.declared.jobs.Worst.{Worst}
 use Rattle.buffers.specs.Parts.{PlainBelow}
 use Rattle.demands.specs.Walks.{TaskObeyed, firstRelease, nextRelease}
 use Rattle.judging.specs.Passes.{Passes, reachedAt}
-use Rattle.judging.specs.Judges.{soFar}
+use Rattle.judging.specs.Judges.{worstSoFar}
 use Rattle.demands.proofs.Releases.{Follows, next-follows, first-released, none-before}
 use Rattle.judging.proofs.PassedWindows.{passes-none, reached-there, reached-nowhere}
 
@@ -88,7 +88,7 @@ pub record Judging (task : Task) (span : ℕ) (running : List ℕ) (worst : Wors
   pub above : passed .given < amount
   pub short : worst .response ≤ 16000
   pub released : r < span → releasedAt (task .release) r ≡ true
-  pub ahead : allJudged task span running ≡ judged running (task .work) job (releasesFrom (task .release) (span - r) r) (soFar worst)
+  pub ahead : allJudged task span running ≡ judged running (task .work) job (releasesFrom (task .release) (span - r) r) (worstSoFar worst)
 
 -- at the first release none is
 pub judging-starts : (task : Task) (span : ℕ) (running : List ℕ) → TaskObeyed task
@@ -107,7 +107,7 @@ judging-starts task span running ok = record {
 
 module _ {task : Task} {span : ℕ} {running : List ℕ} {worst : Worst} {passed : Passed} {amount r : ℕ} (j : Judging task span running worst passed amount r) where
   -- past the span all are
-  pub judging-ends : span ≤ r → allJudged task span running ≡ soFar worst
+  pub judging-ends : span ≤ r → allJudged task span running ≡ worstSoFar worst
   unfolding judged releasesFrom
   judging-ends h = let k : span - r ≡ 0 = omega arith in rw k at (j .ahead)
 
@@ -126,16 +126,16 @@ module _ {task : Task} {span : ℕ} {running : List ℕ} {worst : Worst} {passed
       later = judged running (task .work) (suc (j .job)) (releasesFrom (task .release) (span - next) next)
 
       -- the job of r is judged, and then they are
-      one-judged : allJudged task span running ≡ afterJob (reachedAt running p amount) r (soFar worst) later
+      one-judged : allJudged task span running ≡ afterJob (reachedAt running p amount) r (worstSoFar worst) later
       unfolding judged
       one-judged =
           j .ahead
-          ∙ ap (λ (rs : List ℕ). judged running (task .work) (j .job) rs (soFar worst)) (from-next (task .release) span r next before (j .released before) next-release)
-          ∙ ap (λ (x : Instant). afterJob x r (soFar worst) later) (ap (provide running) (sym (j .ends)) ∙ reached)
+          ∙ ap (λ (rs : List ℕ). judged running (task .work) (j .job) rs (worstSoFar worst)) (from-next (task .release) span r next before (j .released before) next-release)
+          ∙ ap (λ (x : Instant). afterJob x r (worstSoFar worst) later) (ap (provide running) (sym (j .ends)) ∙ reached)
 
       -- it does not end
       pub judging-unfinished : length running ≤ 2 * p .windows → allJudged task span running ≡ unfinished r
-      judging-unfinished h = one-judged ∙ ap (λ (x : Instant). afterJob x r (soFar worst) later) (reached-nowhere running p amount h)
+      judging-unfinished h = one-judged ∙ ap (λ (x : Instant). afterJob x r (worstSoFar worst) later) (reached-nowhere running p amount h)
 
       -- it ends in the next window
       module _ (there : 2 * p .windows < length running) where
@@ -147,7 +147,7 @@ module _ {task : Task} {span : ℕ} {running : List ℕ} {worst : Worst} {passed
         end-below b = provide-below span running amount end b (omega arith) (reached ∙ reached-there running p amount there)
 
         -- the walk goes on
-        pub judging-next : {new : Worst} → soFar new ≡ worse (soFar worst) (end - r) r → new .response ≤ 16000
+        pub judging-next : {new : Worst} → worstSoFar new ≡ worse (worstSoFar worst) (end - r) r → new .response ≤ 16000
             → Judging task span running new p (amount + task .work) next
         judging-next e s = record {
           job = suc (j .job);
@@ -157,5 +157,5 @@ module _ {task : Task} {span : ℕ} {running : List ℕ} {worst : Worst} {passed
           above = omega arith;
           short = s;
           released = λ h. next-release .again (omega arith);
-          ahead = one-judged ∙ ap (λ (x : Instant). afterJob x r (soFar worst) later) (reached-there running p amount there) ∙ ap later (sym e);
+          ahead = one-judged ∙ ap (λ (x : Instant). afterJob x r (worstSoFar worst) later) (reached-there running p amount there) ∙ ap later (sym e);
         }

@@ -4,5 +4,5 @@ use Rattle.answers.specs.Answers.{Verdict, worst, none}
 use Rattle.judging.specs.declared.jobs.Worst.{Worst}
 
 -- the worst so far
-abbrev pub soFar : Worst → Verdict
-soFar w = pick (w .any) (worst (w .response) (w .release)) none
+abbrev pub worstSoFar : Worst → Verdict
+worstSoFar w = pick (w .any) (worst (w .response) (w .release)) none

@@ -12,7 +12,7 @@ ghost use Rattle.answers.specs.Answers.{none, worse, judged, marginOf, response
 ghost use Rattle.schedule.specs.Curves.{releasesFrom};
 ghost use Rattle.buffers.specs.Parts.{PlainBelow};
 ghost use Rattle.demands.specs.Walks.{TaskObeyed};
-ghost use Rattle.judging.specs.Judges.{soFar};
+ghost use Rattle.judging.specs.Judges.{worstSoFar};
 
 // The worst response so far and the release of the first job that attains it, if a job has ended.
 pub struct Worst {
@@ -23,7 +23,7 @@ pub struct Worst {
 
 // The worst so far, once one more job has ended: the first of two that are equal stays.
 fn worse(sofar: Worst, response: u32, release: u32) -> Worst
-    ensures { λ r. ⌜ (soFar r ≡ worse (soFar sofar) response release) × (sofar .response ≤ 16000 → response ≤ 16000 → r .response ≤ 16000) ⌝ }
+    ensures { λ r. ⌜ (worstSoFar r ≡ worse (worstSoFar sofar) response release) × (sofar .response ≤ 16000 → response ≤ 16000 → r .response ≤ 16000) ⌝ }
 {
     if sofar.any {
         if response <= sofar.response {
@@ -58,7 +58,7 @@ fn margin(deadline: u32, response: u32) -> i32
 // The answer of a task all of whose jobs have ended.
 fn ended(worst: Worst, deadline: u32) -> Response
     requires { ⌜ (deadline ≤ 16000) × (worst .response ≤ 16000) ⌝ }
-    ensures { λ r. ⌜ r ≡ responseOf deadline (soFar worst) ⌝ }
+    ensures { λ r. ⌜ r ≡ responseOf deadline (worstSoFar worst) ⌝ }
 {
     if worst.any {
         let response = worst.response;

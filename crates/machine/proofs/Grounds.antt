@@ -11,7 +11,7 @@ use Rattle.table.specs.declared.Table.{Table}
 use Rattle.machine.specs.declared.State.{State}
 use Rattle.machine.specs.declared.Stepped.{Stepped}
 use Rattle.table.specs.Places.{serverAt, firstOf, noneOf}
-use Rattle.machine.specs.Machine.{overBudget, overWork, accepts, taken, refusal, stepOf}
+use Rattle.machine.specs.Machine.{overBudget, overWork, accepts, stepped, refusal, stepOf}
 use Rattle.table.proofs.Places.{first-is, none-at}
 use Rattle.machine.proofs.Stepping.{accepted-rules, accepted-tick, accepted-budgets, accepted-work}
 
@@ -77,7 +77,7 @@ module _ (table : Table) (s : State) where
   unfolding stepOf
   step-refused e = rw e
 
-  pub step-accepted : accepts table s ≡ true → stepOf table s ≡ taken table s
+  pub step-accepted : accepts table s ≡ true → stepOf table s ≡ stepped table s
   unfolding stepOf
   step-accepted e = rw e
 

@@ -67,10 +67,10 @@ module _ (table : Table) (ok : Obeyed table) (s : State) where
 
 -- ---- the whole step
 
-pub step-taken : (table : Table) (s x r : State) (h k : ℕ) → accepts table s ≡ true → r ≡ ready table s → h ≡ holderOf table r → k ≡ runnerOf table r h
+pub step-goes : (table : Table) (s x r : State) (h k : ℕ) → accepts table s ≡ true → r ≡ ready table s → h ≡ holderOf table r → k ≡ runnerOf table r h
     → x ≡ runs k (spends h r) → _≡_ {A = Stepped} (record { refusal = noRefusal; next = later x; holder = h; runner = k }) (stepOf table s)
 unfolding stepOf next holder runner
-step-taken table s x r h k a b c d e = rw (a, e, d, c, b)
+step-goes table s x r h k a b c d e = rw (a, e, d, c, b)
 
 -- from a state that the step accepts, budgets stay at most C
 module _ (table : Table) (ok : Obeyed table) (s : State) (full : Full table s) (e : accepts table s ≡ true) where

@@ -120,12 +120,12 @@ accepts table s =
     && (ltb (s .tick) (table .span) && (noneOf (overBudget table s) (table .«servers_n») && noneOf (overWork s) (table .«tasks_n»)))
 
 -- "returns the next state, the holding server and the running task"
-abbrev pub taken : Table → State → Stepped
-taken table s = record { refusal = noRefusal; next = next table s; holder = holder table s; runner = runner table s }
+abbrev pub stepped : Table → State → Stepped
+stepped table s = record { refusal = noRefusal; next = next table s; holder = holder table s; runner = runner table s }
 
 -- "a refused step also hands back the state it got, with 0 for server and task"
 abbrev pub refusal : State → Stepped
 refusal s = record { refusal = refusedFor OutOfStep; next = s; holder = 0; runner = 0 }
 
 unfoldable pub stepOf : Table → State → Stepped
-stepOf table s = pick (accepts table s) (taken table s) (refusal s)
+stepOf table s = pick (accepts table s) (stepped table s) (refusal s)

@@ -81,14 +81,17 @@ module _ (C T : ℕ) (x free : ℕ → ℕ) (p : 0 < T) where
   unfolding held
   held-under t = rw (← spent-is t) (omega arith)
 
-  -- no period has more than C of them
-  pub held-within : (t : ℕ) → soFar T (held C T x free) t ≤ C
-  held-within zero = omega (arith, so-far-first T (held C T x free) p 0 (zero-mod T))
-  held-within (suc t) = go (held-within t) (ℕ-discrete (suc t % T) 0)
+  so-far-within : (t : ℕ) → soFar T (held C T x free) t ≤ C
+  so-far-within zero = omega (arith, so-far-first T (held C T x free) p 0 (zero-mod T))
+  so-far-within (suc t) = go (so-far-within t) (ℕ-discrete (suc t % T) 0)
     where
       go : soFar T (held C T x free) t ≤ C → Dec (suc t % T ≡ 0) → soFar T (held C T x free) (suc t) ≤ C
       go ih (yes e) = omega (arith, so-far-first T (held C T x free) p (suc t) e)
       go ih (no e) = omega (arith, so-far-next T (held C T x free) p t e, held-under t)
+
+  -- no period has more than C of them, its last tick counted
+  pub held-within : (t : ℕ) → soFar T (held C T x free) t + held C T x free t ≤ C
+  held-within t = omega (arith, so-far-within t, held-under t)
 
 -- smoothing the work first changes nothing
 pub held-smoothing : (C T : ℕ) (x y free : ℕ → ℕ) → 0 < T → ((t : ℕ) → free t ≤ 1) → held C T (smooth x ⊕ y) free ≡ held C T (x ⊕ y) free

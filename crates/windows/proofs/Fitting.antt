@@ -9,11 +9,11 @@ use lib.ListN.{length}
 use lib.Dec.{leb}
 use borrow.Author.Tests.{leb-true, leb-false, le-leb, lt-leb}
 use Rattle.basics.specs.Choice.{pick}
-use Rattle.windows.specs.Windows.{inside, cover, size, endOf, isPlain, window, join, upto, done, Fit, passed, part, fitIn, fit, _⊕_}
+use Rattle.windows.specs.Windows.{inside, cover, size, endOf, isPlain, window, join, upto, done, Fit, leaving, part, fitIn, fit, _⊕_}
 use Rattle.windows.proofs.Ticks.{inside-split, Apart, apart-lower, cover-before, cover-after, cover-one, end-below, apart-plain, plain-apart, plain-end, window-cover, window-apart, window-none, window-some, join-apart, join-cover, join-size}
 use Rattle.windows.proofs.Counts.{upto-none, upto-⊕, upto-inside, count-all}
 use Rattle.windows.proofs.Queue.{done-quiet, done-serves, Serves}
-use Rattle.windows.proofs.Serving.{passed-served, demand-parts, window-served}
+use Rattle.windows.proofs.Serving.{leaving-served, demand-parts, window-served}
 
 -- ---- the numbers of a part: it starts at a, the later start, and has n ticks, as many as both allow
 
@@ -87,11 +87,11 @@ module _ (qs qe ps pe : ℕ) (d s : List ℕ) where
   bound = (4 + length d) + length s
 
   -- the first supply window ends before the demand starts
-  pub fit-passed : pe ≤ qs → fit (qs ∷ (qe ∷ d)) (ps ∷ (pe ∷ s)) ≡ passed ps pe (fit (qs ∷ (qe ∷ d)) s)
+  pub fit-leaving : pe ≤ qs → fit (qs ∷ (qe ∷ d)) (ps ∷ (pe ∷ s)) ≡ leaving ps pe (fit (qs ∷ (qe ∷ d)) s)
   unfolding fitIn
-  fit-passed h =
+  fit-leaving h =
       sym (fit-any (suc bound) (qs ∷ (qe ∷ d)) (ps ∷ (pe ∷ s)) (omega arith))
-      ∙ rw (le-leb pe qs h) (ap (passed ps pe) (fit-any bound (qs ∷ (qe ∷ d)) s (omega arith)))
+      ∙ rw (le-leb pe qs h) (ap (leaving ps pe) (fit-any bound (qs ∷ (qe ∷ d)) s (omega arith)))
 
   -- it ends after the demand starts
   pub fit-part : qs < pe
@@ -116,11 +116,11 @@ pub record Fitted (d s : List ℕ) (ld lo : ℕ) (o : Fit) : Type 0 where
   pub left-apart : Apart lo (o .left)
   pub rest-apart : Apart ld (o .rest)
 
-fitted-passed : (d s : List ℕ) (ld lo qs ps pe : ℕ) (o : Fit) → ld ≤ qs → Apart qs d → pe ≤ qs → lo ≤ ps → ps < pe
-    → Fitted d s qs (suc pe) o → Fitted d (ps ∷ (pe ∷ s)) ld lo (passed ps pe o)
+fitted-leaves : (d s : List ℕ) (ld lo qs ps pe : ℕ) (o : Fit) → ld ≤ qs → Apart qs d → pe ≤ qs → lo ≤ ps → ps < pe
+    → Fitted d s qs (suc pe) o → Fitted d (ps ∷ (pe ∷ s)) ld lo (leaving ps pe o)
 unfolding cover
-fitted-passed d s ld lo qs ps pe o i p h l z g = record {
-  serves = g .serves ∙ sym (passed-served d s qs ps pe p h);
+fitted-leaves d s ld lo qs ps pe o i p h l z g = record {
+  serves = g .serves ∙ sym (leaving-served d s qs ps pe p h);
   leaves = fun-ext (λ t. omega (arith, ap (λ (f : ℕ → ℕ). f t) (g .leaves)));
   remains = g .remains;
   served-apart = apart-lower (max qs (suc pe)) (max ld lo) (o .served) (omega arith) (g .served-apart);
@@ -220,9 +220,9 @@ fitted-in (suc k) (qs ∷ (qe ∷ d)) (ps ∷ (pe ∷ s)) ld lo p q h =
         → (Apart (qs + n) (window (qs + n) qe d) → Apart (a + n) (window (a + n) pe s) → length (window (qs + n) qe d) + length (window (a + n) pe s) ≤ k
         → Fitted (window (qs + n) qe d) (window (a + n) pe s) (qs + n) (a + n) (fitIn k (window (qs + n) qe d) (window (a + n) pe s)))
         → Fitted (qs ∷ (qe ∷ d)) (ps ∷ (pe ∷ s)) ld lo
-        (pick x (passed ps pe (fitIn k (qs ∷ (qe ∷ d)) s)) (part ps a n (fitIn k (window (qs + n) qe d) (window (a + n) pe s))))
+        (pick x (leaving ps pe (fitIn k (qs ∷ (qe ∷ d)) s)) (part ps a n (fitIn k (window (qs + n) qe d) (window (a + n) pe s))))
     go true e u r =
-        fitted-passed (qs ∷ (qe ∷ d)) s ld lo qs ps pe (fitIn k (qs ∷ (qe ∷ d)) s) (p .0) (omega arith, p .1, p .2) (leb-true pe qs e) (q .0) (q .1)
+        fitted-leaves (qs ∷ (qe ∷ d)) s ld lo qs ps pe (fitIn k (qs ∷ (qe ∷ d)) s) (p .0) (omega arith, p .1, p .2) (leb-true pe qs e) (q .0) (q .1)
         (u (omega arith, p .1, p .2) (q .2) (omega arith))
     go false e u r =
         let b : Part qs qe ps pe a n = part-is qs qe ps pe (p .1) (q .1) (leb-false pe qs e) in

@@ -59,9 +59,9 @@ module _ (s : ℕ → ℕ) (q a n : ℕ) (order : q ≤ a) (quiet : (u : ℕ) �
 -- ---- the same of curves
 
 -- the first supply window ends before the demand starts
-pub passed-served : (d s : List ℕ) (lo ps pe : ℕ) → Apart lo d → pe ≤ lo → done (cover d) (cover (ps ∷ (pe ∷ s))) ≡ done (cover d) (cover s)
+pub leaving-served : (d s : List ℕ) (lo ps pe : ℕ) → Apart lo d → pe ≤ lo → done (cover d) (cover (ps ∷ (pe ∷ s))) ≡ done (cover d) (cover s)
 unfolding cover
-passed-served d s lo ps pe p h = sym (unused (cover d) (cover s) ps pe (λ u k. cover-before d lo u p (omega arith)))
+leaving-served d s lo ps pe p h = sym (unused (cover d) (cover s) ps pe (λ u k. cover-before d lo u p (omega arith)))
 
 -- n ticks are served from a on, the later of the two starts
 module _ (d s : List ℕ) (qs qe ps pe n : ℕ) (fd : qs + n ≤ qe) (pd : Apart (suc qe) d) (pp : Apart (suc pe) s) where

@@ -6,7 +6,7 @@ use mathlib.Core.List.{List, [], _∷_}
 use native.Mathlib.Omega.{arith}
 use native.Mathlib.Decide.{decLt}
 use borrow.Author.Tests.{lt-ltb, le-ltb}
-use Rattle.windows.specs.Windows.{window, join, Fit, passed, fit}
+use Rattle.windows.specs.Windows.{window, join, Fit, leaving, fit}
 use Rattle.windows.specs.Walks.{raise, servedFirst, restFirst, openFirst}
 use Rattle.windows.proofs.Ticks.{Apart, apart-lower, window-some, window-none, window-apart, join-join, join-gap}
 use Rattle.windows.proofs.Fitting.{fit-no-demand, fit-no-supply, fit-part, fitted}
@@ -14,8 +14,8 @@ use Rattle.windows.proofs.Fitting.{fit-no-demand, fit-no-supply, fit-pa
 -- ---- what is left over
 
 -- nothing is wanted any more
-pub fit-unwanted : (ps pe : ℕ) (s : List ℕ) → fit [] (ps ∷ (pe ∷ s)) ≡ passed ps pe (fit [] s)
-fit-unwanted ps pe s = fit-no-demand (ps ∷ (pe ∷ s)) ∙ ap (passed ps pe) (sym (fit-no-demand s))
+pub fit-unwanted : (ps pe : ℕ) (s : List ℕ) → fit [] (ps ∷ (pe ∷ s)) ≡ leaving ps pe (fit [] s)
+fit-unwanted ps pe s = fit-no-demand (ps ∷ (pe ∷ s)) ∙ ap (leaving ps pe) (sym (fit-no-demand s))
 
 -- nothing is offered any more
 pub fit-unserved : (lo qs qe : ℕ) (d : List ℕ) → Apart lo d → fit (qs ∷ (qe ∷ d)) [] ≡ restFirst qs qe (fit d [])
@@ -24,7 +24,7 @@ fit-unserved lo qs qe (x ∷ []) p = absurd p
 fit-unserved lo qs qe (x ∷ (y ∷ d)) p = fit-no-supply qs qe (x ∷ (y ∷ d)) ∙ ap (restFirst qs qe) (sym (fit-no-supply x y d))
 
 -- the supply before the demand is left
-pub fit-side : (qs qe ps pe : ℕ) (d s : List ℕ) → ps < qs → qs < pe → fit (qs ∷ (qe ∷ d)) (ps ∷ (pe ∷ s)) ≡ passed ps qs (fit (qs ∷ (qe ∷ d)) (qs ∷ (pe ∷ s)))
+pub fit-side : (qs qe ps pe : ℕ) (d s : List ℕ) → ps < qs → qs < pe → fit (qs ∷ (qe ∷ d)) (ps ∷ (pe ∷ s)) ≡ leaving ps qs (fit (qs ∷ (qe ∷ d)) (qs ∷ (pe ∷ s)))
 fit-side qs qe ps pe d s h k =
     let a : max qs ps ≡ qs = omega arith in
     let b : max qs qs ≡ qs = omega arith in

@@ -113,8 +113,8 @@ pub record Fit : Type 0 where
   pub rest : List ℕ
 
 -- the supply window (ps, pe) ends before the demand starts, and is left
-abbrev pub passed : ℕ → ℕ → Fit → Fit
-passed ps pe o = record { left = ps ∷ (pe ∷ o .left); served = o .served; rest = o .rest }
+abbrev pub leaving : ℕ → ℕ → Fit → Fit
+leaving ps pe o = record { left = ps ∷ (pe ∷ o .left); served = o .served; rest = o .rest }
 
 -- the n ticks from a on are served, and the supply before them, from ps on, is left: "The unused supply keeps both its sides"
 abbrev pub part : ℕ → ℕ → ℕ → Fit → Fit
@@ -135,7 +135,7 @@ fitIn (suc k) (qs ∷ (qe ∷ d)) (ps ∷ (pe ∷ s)) =
     let n = min (qe - qs) (pe - max qs ps) in
     let later = fitIn k (qs ∷ (qe ∷ d)) s in
     let next = fitIn k (window (qs + n) qe d) (window (a + n) pe s) in
-    pick (leb pe qs) (passed ps pe later) (part ps a n next)
+    pick (leb pe qs) (leaving ps pe later) (part ps a n next)
 
 unfoldable pub fit : List ℕ → List ℕ → Fit
 fit d s = fitIn (length d + length s) d s

@@ -75,11 +75,14 @@ loop-less c = search needs
 
 loop-again : tie.Need-loop-again Inv-loop μ-loop
 unfolding plainFrom
-loop-again c = (
-  omega arith,
-  rw (drop-pair _ _ (c .before .before .before .before .before .if1 .left), le-leb _ _ (c .before .before .if2 .left), lt-ltb _ _ (c .before .if3 .left), le-leb _ _ (c .if4 .left))
-      at (c .before .before .before .before .before .before .before .loop .inv .1),
-)
+loop-again c =
+    let l = c .before .before .before .before .before .before .before .before .args .curve .now in
+    let i = c .before .before .before .before .before .before .before .loop .i in
+    let within = le-leb (getD l (i + 1) 0) 1000000 (omega (arith, c .if4 .left)) in (
+      omega arith,
+      rw (drop-pair _ _ (c .before .before .before .before .before .if1 .left), le-leb _ _ (c .before .before .if2 .left), lt-ltb _ _ (c .before .if3 .left), within)
+          at (c .before .before .before .before .before .before .before .loop .inv .1),
+    )
 
 returns-5 : tie.Need-returns-5 Inv-loop μ-loop
 unfolding plainFrom

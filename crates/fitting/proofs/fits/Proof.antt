@@ -3,7 +3,7 @@
 use Prim.Native.Nat.{_-_}
 use mathlib.Core.Path.{_≡_, refl, sym}
 use native.Mathlib.Omega.{arith}
-use Rattle.windows.specs.Windows.{fit, passed}
+use Rattle.windows.specs.Windows.{fit, leaving}
 use Rattle.windows.specs.Walks.{servedFirst, restFirst}
 use Rattle.fitting.specs.Steps.{fitAhead, InFit, Goes}
 use Rattle.fitting.proofs.Fittings.{part-rest, fit-start, in-start, total, goes-less, FitCounted, fit-counted, count-left, count-served, count-rest, over-left, over-served, over-rest, count-done}
@@ -19,7 +19,7 @@ abbrev μ-loop : tie.MeasureT-loop
 
 -- the piece of a turn
 left-piece : (c : tie.After-k Inv-loop μ-loop)
-    → Goes (c .before .before .before .before .before .before .args .demand .now) (c .before .before .before .loop .ahead .now) (c .before .before .before .loop .place) (passed (c .k .given .0 .0) (c .k .given .0 .1 .0)) (c .k .given .0 .1 .1 .0) (c .k .given .0 .1 .1 .1 .0)
+    → Goes (c .before .before .before .before .before .before .args .demand .now) (c .before .before .before .loop .ahead .now) (c .before .before .before .loop .place) (leaving (c .k .given .0 .0) (c .k .given .0 .1 .0)) (c .k .given .0 .1 .1 .0) (c .k .given .0 .1 .1 .1 .0)
 left-piece c = rw (c .k .given .1) at (c .before .before .next .ensures)
 
 served-piece : (c : tie.After-k2 Inv-loop μ-loop)

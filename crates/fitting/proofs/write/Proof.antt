@@ -3,7 +3,7 @@
 use Prim.Native.Nat.{_-_}
 use mathlib.Core.Path.{_≡_, refl}
 use native.Mathlib.Omega.{arith}
-use Rattle.windows.specs.Windows.{fit, passed}
+use Rattle.windows.specs.Windows.{fit, leaving}
 use Rattle.windows.specs.Walks.{servedFirst, restFirst}
 use Rattle.fitting.specs.Steps.{fitAhead, InFit, Goes}
 use Rattle.walks.proofs.Buffers.{written-all}
@@ -20,7 +20,7 @@ abbrev μ-loop : tie.MeasureT-loop
 
 -- the piece of a turn
 left-piece : (c : tie.After-a Inv-loop μ-loop)
-    → Goes (c .before .before .before .before .before .before .before .before .before .args .demand .now) (c .before .before .before .loop .ahead .now) (c .before .before .before .loop .place) (passed (c .a .given .0 .0) (c .a .given .0 .1 .0)) (c .a .given .0 .1 .1 .0) (c .a .given .0 .1 .1 .1 .0)
+    → Goes (c .before .before .before .before .before .before .before .before .before .args .demand .now) (c .before .before .before .loop .ahead .now) (c .before .before .before .loop .place) (leaving (c .a .given .0 .0) (c .a .given .0 .1 .0)) (c .a .given .0 .1 .1 .0) (c .a .given .0 .1 .1 .1 .0)
 left-piece c = rw (c .a .given .1) at (c .before .before .next .ensures)
 
 served-piece : (c : tie.After-a2 Inv-loop μ-loop)

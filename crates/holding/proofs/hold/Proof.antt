@@ -3,7 +3,7 @@ use Prim.Native.Nat.{_-_}
 use native.Mathlib.Omega.{arith}
 use borrow.Author.Needs.{needs}
 use Rattle.holding.proofs.HoldTurns.{Given, Stands, stands-first, free-window, free-most, Turn, turn-in, turn-offered}
-use Rattle.holding.proofs.HoldDraws.{Draws, draws-none, draws-room, turn-held, turn-passed, turn-less, draws-all}
+use Rattle.holding.proofs.HoldDraws.{Draws, draws-none, draws-room, turn-held, turn-skipped, turn-less, draws-all}
 use Rattle.holding.proofs.hold.Statement.{statement}
 use Rattle.holding.proofs.hold.Tie as tie
 
@@ -79,7 +79,7 @@ put-requires c κs =
     draws-room (turn e) (e .entered .ensures .there) (c .before .before .before .next-piece .ensures) (k .loop .inv .1 .in-held) (start k .pre .5)
 
 served-requires : tie.Need-served-requires Inv-loop μ-loop
-served-requires c κs = c .before .before .before .before .before .before .next-piece .ensures .takes (c .before .before .before .before .if1 .taken)
+served-requires c κs = c .before .before .before .before .before .before .next-piece .ensures .holds (c .before .before .before .before .if1 .taken)
 
 loop-less : tie.Need-loop-less Inv-loop μ-loop
 loop-less c = turn-less (turn (c .before .before .before .before .before .before .before .before)) (c .before .before .before .before .before .before .before .next-piece .ensures) (c .served .ensures .there)
@@ -97,18 +97,18 @@ put-requires-2 c κs =
     let k = turned e in
     draws-room (turn e) (e .entered .ensures .there) (c .before .before .before .next-piece .ensures) (k .loop .inv .1 .in-left) (start k .pre .6)
 
-passed-requires : tie.Need-passed-requires Inv-loop μ-loop
-passed-requires c κs = search needs
+skipped-requires : tie.Need-skipped-requires Inv-loop μ-loop
+skipped-requires c κs = search needs
 
 loop-less-2 : tie.Need-loop-less-2 Inv-loop μ-loop
-loop-less-2 c = turn-less (turn (c .before .before .before .before .before .before .before .before)) (c .before .before .before .before .before .before .before .next-piece .ensures) (c .passed .ensures .there)
+loop-less-2 c = turn-less (turn (c .before .before .before .before .before .before .before .before)) (c .before .before .before .before .before .before .before .next-piece .ensures) (c .skipped .ensures .there)
 
 loop-again-2 : tie.Need-loop-again-2 Inv-loop μ-loop
 loop-again-2 c =
     let e = c .before .before .before .before .before .before .before .before in
     rw (c .before .before .before .before .before .before .next-window .ensures)
-    (turn-passed (turn e) (e .entered .ensures .there) (turned e .loop .inv .1) (c .before .before .before .before .before .before .before .next-piece .ensures) (c .before .before .before .before .before .if1 .left) (c .before .before .before .put2 .ensures)
-    (c .passed .ensures))
+    (turn-skipped (turn e) (e .entered .ensures .there) (turned e .loop .inv .1) (c .before .before .before .before .before .before .before .next-piece .ensures) (c .before .before .before .before .before .if1 .left) (c .before .before .before .put2 .ensures)
+    (c .skipped .ensures))
 
 same-length : tie.Need-same-length Inv-loop μ-loop
 same-length c = c .before .loop .inv .1 .in-held .same
@@ -141,7 +141,7 @@ hold-spec =
     loop-less
     loop-again
     put-requires-2
-    passed-requires
+    skipped-requires
     loop-less-2
     loop-again-2
     same-length

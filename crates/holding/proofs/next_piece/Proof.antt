@@ -1,5 +1,5 @@
 -- `holding::next_piece` meets its contract.
-use Rattle.holding.proofs.CutPieces.{cuts-done, cuts-later, cuts-spent, cuts-taken}
+use Rattle.holding.proofs.CutPieces.{cuts-done, cuts-later, cuts-spent, cuts-held}
 use native.Mathlib.Omega.{arith}
 use borrow.Author.Needs.{needs}
 use Rattle.holding.proofs.next_piece.Statement.{statement}
@@ -47,7 +47,7 @@ add-t14 c = search needs
 returns-4 : tie.Need-returns-4
 returns-4 c =
     rw (c .before .smaller4 .ensures, c .before .before .before .smaller3 .ensures, c .before .before .before .before .before .before .before .before .smaller2 .ensures)
-    (cuts-taken (c .before .before .before .before .before .before .before .before .before .before .before .before .before .pre) (c .before .before .before .before .before .before .before .before .before .before .before .if1 .left) (c .before .before .before .before .before .before .before .before .before .if2 .left) (c .before .before .before .before .before .before .if3 .left))
+    (cuts-held (c .before .before .before .before .before .before .before .before .before .before .before .before .before .pre) (c .before .before .before .before .before .before .before .before .before .before .before .if1 .left) (c .before .before .before .before .before .before .before .before .before .if2 .left) (c .before .before .before .before .before .before .if3 .left))
 
 pub next-piece-spec : {M : Type 1} → statement M
 next-piece-spec =

@@ -25,14 +25,11 @@ sub-budget c = search needs
 returns : tie.Need-returns
 returns c = served-part (c .before .before .before .before .before .before .pre) (c .if1 .taken)
 
-add-number-at : tie.Need-add-number-at
-add-number-at c = search needs
+add-behind : tie.Need-add-behind
+add-behind c = search needs
 
 number-at-requires : tie.Need-number-at-requires
 number-at-requires c κs = search needs
-
-add-t12 : tie.Need-add-t12
-add-t12 c = search needs
 
 returns-2 : tie.Need-returns-2
 returns-2 c = rw (c .number-at .ensures) (served-whole (c .before .before .before .before .before .before .before .pre) (c .before .if1 .left))
@@ -48,7 +45,6 @@ served-spec =
     add-wanted
     sub-budget
     returns
-    add-number-at
+    add-behind
     number-at-requires
-    add-t12
     returns-2)

@@ -1,27 +1,27 @@
--- `fields::parting::field` meets its contract. The loop's invariant is `Passed`: the field is behind skip - k others of the rest.
+-- `fields::parting::field` meets its contract. The loop's invariant is `Behind`: the field is behind skip - k others of the rest.
 use Prim.Native.Nat.{_-_, _<_}
 use mathlib.Core.Path.{sym}
 use native.Mathlib.Omega.{arith}
 use lib.ListN.{length}
 use lib.Seq.{length-take-le}
 use Rattle.fields.specs.Pieces.{firstLength}
-use Rattle.fields.proofs.Splits.{Passed, passed-none, passed-tab, passed-more, passed-all, part-rest, first-within}
+use Rattle.fields.proofs.Splits.{Behind, behind-none, behind-tab, behind-more, behind-all, part-rest, first-within}
 use borrow.Author.Needs.{needs}
 use Rattle.fields.proofs.parting.field.Statement.{statement}
 use Rattle.fields.proofs.parting.field.Tie as tie
 
 abbrev Inv-loop : tie.InvT-loop
-Inv-loop line skip rest₀ k₀ rest k = Passed line skip rest k
+Inv-loop line skip rest₀ k₀ rest k = Behind line skip rest k
 
 abbrev μ-loop : tie.MeasureT-loop
 μ-loop line skip rest₀ k₀ rest k = skip - k
 
 -- the tab of a turn
 tab : (c : tie.In-loop Inv-loop μ-loop) → firstLength 9 (c .before .loop .rest .now) < length (c .before .loop .rest .now)
-tab c = passed-tab (c .before .loop .inv) (c .loop-test .taken)
+tab c = behind-tab (c .before .loop .inv) (c .loop-test .taken)
 
 loop-holds : tie.Need-loop-holds Inv-loop μ-loop
-loop-holds c = passed-none _ _ (c .before .pre)
+loop-holds c = behind-none _ _ (c .before .pre)
 
 piece-length-requires : tie.Need-piece-length-requires Inv-loop μ-loop
 piece-length-requires c κs = search needs
@@ -45,7 +45,7 @@ loop-less : tie.Need-loop-less Inv-loop μ-loop
 loop-less c = search needs
 
 loop-again : tie.Need-loop-again Inv-loop μ-loop
-loop-again c = rw (part-rest _ _, c .before .piece-length .ensures) (passed-more (c .before .before .before .loop .inv) (c .before .before .loop-test .taken))
+loop-again c = rw (part-rest _ _, c .before .piece-length .ensures) (behind-more (c .before .before .before .loop .inv) (c .before .before .loop-test .taken))
 
 piece-length-requires-2 : tie.Need-piece-length-requires-2 Inv-loop μ-loop
 piece-length-requires-2 c κs = search needs
@@ -54,7 +54,7 @@ slice-aggregate-result : tie.Need-slice-aggregate-result Inv-loop μ-loop
 slice-aggregate-result c = rw (c .before .piece-length2 .ensures) (sym (length-take-le _ _ (first-within 9 _)))
 
 returns : tie.Need-returns Inv-loop μ-loop
-returns c = rw (c .before .piece-length2 .ensures) (passed-all (c .before .before .before .loop .inv) (c .before .before .loop-test .left))
+returns c = rw (c .before .piece-length2 .ensures) (behind-all (c .before .before .before .loop .inv) (c .before .before .loop-test .left))
 
 pub field-spec : {M : Type 1} → statement M
 field-spec =

@@ -3,7 +3,7 @@ use Prim.Native.Nat.{_-_}
 use mathlib.Core.Path.{_≡_, refl}
 use native.Mathlib.Omega.{arith}
 use Rattle.fitting.proofs.Stretches.{Ahead, ahead-at}
-use Rattle.fitting.proofs.Pieces.{supply-none, piece-done, piece-unwanted, piece-rest, piece-passed, piece-side, piece-served, piece-used}
+use Rattle.fitting.proofs.Pieces.{supply-none, piece-done, piece-unwanted, piece-rest, piece-leaves, piece-side, piece-served, piece-used}
 use borrow.Author.Needs.{needs}
 use Rattle.fitting.proofs.Place.next.Statement.{statement}
 use Rattle.fitting.proofs.Place.next.Tie as tie
@@ -76,14 +76,14 @@ returns-4 : tie.Need-returns-4
 returns-4 c =
     let o = c .before .before .before .before in
     let q = c .before .before .before .before .before .larger2 .ensures in
-    rw (c .before .before .larger3 .ensures) (piece-passed (start o .pre) (wants (wanting o)) (offers o) (rw q at (c .if4 .taken)))
+    rw (c .before .before .larger3 .ensures) (piece-leaves (start o .pre) (wants (wanting o)) (offers o) (rw q at (c .if4 .taken)))
 
 returns-5 : tie.Need-returns-5
 returns-5 c =
     let o = c .before .before .before .before .before in
     let q = c .before .before .before .before .before .before .larger2 .ensures in
     let s = c .before .before .before .larger3 .ensures in
-    rw (q, s) (piece-side (start o .pre) (wants (wanting o)) (offers o) (rw q at (c .before .if4 .left)) (rw (q, s) at (c .if5 .taken)))
+    piece-side (start o .pre) (wants (wanting o)) (offers o) q s (c .before .if4 .left) (c .if5 .taken)
 
 stretch-requires : tie.Need-stretch-requires
 stretch-requires c κs =

@@ -9,7 +9,7 @@ use Rattle.machine.specs.declared.State.{State}
 use Rattle.machine.specs.Machine.{releases, ready, runnerOf, runs, spends, accepts, stepOf}
 use Rattle.table.specs.Places.{Obeyed}
 use Rattle.table.proofs.Obeyed.{obeyed-of, span-most}
-use Rattle.machine.proofs.Stepping.{accepted-rules, accepted-tick, accepted-work, holder-most, holder-has, first-runs, runner-most, runner-has, step-taken}
+use Rattle.machine.proofs.Stepping.{accepted-rules, accepted-tick, accepted-work, holder-most, holder-has, first-runs, runner-most, runner-has, step-goes}
 use Rattle.machine.proofs.State.step.Statement.{statement}
 use Rattle.machine.proofs.State.step.Tie as tie
 
@@ -95,7 +95,7 @@ returns-2 d =
     let c = d .before in
     let r = c .before .before .before .before .before .before in
     rw (d .no-refusal .ensures)
-    (step-taken (c .before .before .before .before .before .before .before .before .before .before .args .table) (c .before .before .before .before .before .before .before .before .before .before .args .self) (c .before .run .result) (r .release .result) (c .before .before .before .before .first-server .result) (c .before .before .before .first-task .result)
+    (step-goes (c .before .before .before .before .before .before .before .before .before .before .args .table) (c .before .before .before .before .before .before .before .before .before .before .args .self) (c .before .run .result) (r .release .result) (c .before .before .before .before .first-server .result) (c .before .before .before .first-task .result)
     (so (c .before .before .before .before .before .before .before .before)) (ready-so r) (c .before .before .before .before .first-server .ensures) (runner-so (c .before .before .before)) (ran-so (c .before)))
 
 pub step-spec : {M : Type 1} → statement M

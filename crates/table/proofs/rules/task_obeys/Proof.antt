@@ -1,6 +1,7 @@
 -- `table::rules::task_obeys` meets its contract.
 use mathlib.Core.Path.{_≡_, refl, sym, _∙_}
 use mathlib.Core.Bool.{true}
+use native.Mathlib.Omega.{arith}
 use borrow.Author.Tests.{not-true, not-false, le-leb, lt-leb}
 use Rattle.table.specs.Rules.{between}
 use borrow.Author.Needs.{needs}
@@ -9,16 +10,18 @@ use Rattle.table.proofs.rules.task_obeys.Tie as tie
 
 -- past the first two tests the server is there
 server-so : (c : tie.Else2) → between 1 (c .before .before .before .before .args .servers) (c .before .before .before .before .args .task .server) ≡ true
-server-so c = rw (le-leb _ _ (c .before .before .if1 .left), le-leb _ _ (c .if2 .left))
+server-so c =
+    rw (le-leb 1 (c .before .before .before .before .args .task .server) (omega (arith, c .before .before .if1 .left)), le-leb _ _ (c .if2 .left))
 
 returns : tie.Need-returns
-returns c = rw (lt-leb _ _ (c .if1 .taken))
+returns c = rw (lt-leb 1 (c .before .before .args .task .server) (omega (arith, c .if1 .taken)))
 
 cast-if2 : tie.Need-cast-if2
 cast-if2 c = search needs
 
 returns-2 : tie.Need-returns-2
-returns-2 c = rw (le-leb _ _ (c .before .before .if1 .left), lt-leb _ _ (c .if2 .taken))
+returns-2 c =
+    rw (le-leb 1 (c .before .before .before .before .args .task .server) (omega (arith, c .before .before .if1 .left)), lt-leb _ _ (c .if2 .taken))
 
 in-ticks-requires : tie.Need-in-ticks-requires
 in-ticks-requires c κs = search needs

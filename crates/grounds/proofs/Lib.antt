@@ -1,0 +1,5 @@
+pub mod Judged
+pub mod Grounds
+pub mod Words
+pub mod Texts
+pub mod Examples
