@@ -23,7 +23,7 @@ static void analyse(const uint8_t *text, size_t n, struct answers *out)
 {
     uint32_t line;
     uint32_t number = grod_analyse(text, n, work[0], GROD_ROOM, work[1], GROD_ROOM, work[2], GROD_ROOM, work[3], GROD_ROOM, work[4], GROD_ROOM, work[5],
-                                   GROD_ROOM, &line, &out->span, &out->servers_n, &out->tasks_n, out->full, out->short_period, out->kind, out->response,
+                                   GROD_ROOM, &line, &out->span, &out->servers_n, &out->tasks_n, out->full, out->short_period, out->outcome, out->response,
                                    out->release, out->margin);
     if (number != 0) {
         printf("refused %u %u\n", (unsigned)number, (unsigned)line);
@@ -55,6 +55,7 @@ static const side sides[ALL] = {analyse, simulate, simulate_bits, read_only, cle
 static uint32_t check(const struct text *text)
 {
     struct answers answers[SIDES];
+    /* so that the entries beyond the counts, which the analysis does not write, are the same */
     memset(answers, 0, sizeof answers);
     for (int i = 0; i < SIDES; i++) {
         sides[i](text->bytes, text->n, &answers[i]);

@@ -259,10 +259,10 @@ static void answer_task(uint32_t k, struct answers *out)
 {
     uint32_t j = m.number[k];
     if (m.job[k] < m.span) {
-        out->kind[j] = GROD_UNFINISHED;
+        out->outcome[j] = GROD_UNFINISHED;
         out->release[j] = m.job[k];
     } else if (m.worst[k] != 0) {
-        out->kind[j] = GROD_WORST;
+        out->outcome[j] = GROD_WORST;
         out->response[j] = m.worst[k];
         out->release[j] = m.worst_job[k];
         out->margin[j] = (int32_t)m.deadline[k] - (int32_t)m.worst[k];
@@ -272,7 +272,6 @@ static void answer_task(uint32_t k, struct answers *out)
 static void answer(struct answers *out)
 {
     memset(out, 0, sizeof *out);
-    memset(out->short_period, 0xff, sizeof out->short_period);
     out->span = m.span;
     out->servers_n = m.servers;
     out->tasks_n = m.tasks;

@@ -9,7 +9,7 @@ struct answers {
     uint32_t span;
     size_t servers_n, tasks_n;
     uint32_t full[GROD_SERVERS], short_period[GROD_SERVERS];
-    uint32_t kind[GROD_TASKS], response[GROD_TASKS], release[GROD_TASKS];
+    uint32_t outcome[GROD_TASKS], response[GROD_TASKS], release[GROD_TASKS];
     int32_t margin[GROD_TASKS];
 };
 

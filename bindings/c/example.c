@@ -13,7 +13,7 @@ struct answers {
     uint32_t span;
     size_t servers, tasks;
     uint32_t full[GROD_SERVERS], short_period[GROD_SERVERS];
-    uint32_t kind[GROD_TASKS], response[GROD_TASKS], release[GROD_TASKS];
+    uint32_t outcome[GROD_TASKS], response[GROD_TASKS], release[GROD_TASKS];
     int32_t margin[GROD_TASKS];
 };
 
@@ -50,9 +50,9 @@ static void say_worst(uint32_t response, uint32_t release, int32_t margin)
 static void say_task(const struct answers *a, size_t j)
 {
     printf("task %zu: ", j + 1);
-    if (a->kind[j] == GROD_WORST)
+    if (a->outcome[j] == GROD_WORST)
         say_worst(a->response[j], a->release[j], a->margin[j]);
-    else if (a->kind[j] == GROD_UNFINISHED)
+    else if (a->outcome[j] == GROD_UNFINISHED)
         printf("unfinished: the job released at %u has not ended with the span\n", (unsigned)a->release[j]);
     else
         printf("none: it is not released in the span\n");
@@ -64,7 +64,7 @@ static int analyse(size_t n)
     struct answers a;
     uint32_t line;
     uint32_t number = grod_analyse(text, n, work[0], GROD_ROOM, work[1], GROD_ROOM, work[2], GROD_ROOM, work[3], GROD_ROOM, work[4], GROD_ROOM,
-                                   work[5], GROD_ROOM, &line, &a.span, &a.servers, &a.tasks, a.full, a.short_period, a.kind, a.response, a.release,
+                                   work[5], GROD_ROOM, &line, &a.span, &a.servers, &a.tasks, a.full, a.short_period, a.outcome, a.response, a.release,
                                    a.margin);
     if (number != 0)
         return refused("table", number, line);

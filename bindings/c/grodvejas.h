@@ -2,7 +2,8 @@
  *
  * Every call may be handed anything: any bytes, any numbers, any lengths. It ends, and answers 0, or the number of its refusal (below). A refused
  * call changes nothing that was lent or handed in, but for `*line` where the call has one: there stands the line of the text that is refused, counted
- * from 1, and 0 where no line is meant. An accepted call writes 0 there.
+ * from 1, and 0 where no line is meant; and but for grod_step, where `*holder` and `*runner` become 0. An accepted call writes 0 to `*line`. What it
+ * writes to a buffer or an array starts at the front, and the rest stays as it was; the work buffers alone are 0 throughout.
  *
  * Pointers are never null, point to as many elements as the length behind them or the array size says, and no two of them overlap, save that two curves
  * that are only read may. A buffer of length 0 is allowed (with any pointer that is not null).
@@ -26,13 +27,13 @@ enum {
     GROD_SERVERS = 16,    /* the most servers that a table has */
     GROD_TASKS = 64,      /* the most tasks */
     GROD_ROOM = 16000,    /* the least that a work buffer holds */
-    GROD_REPORT = 4096    /* more bytes than a report has */
+    GROD_REPORT = 4096    /* room for any report: it has at most 2,475 bytes, by proof (`report-short`) */
 };
 
 /* in `short_period`: no period is short */
 #define GROD_NEVER UINT32_MAX
 
-/* in `kind` */
+/* in `outcome` */
 enum { GROD_NONE = 0, GROD_WORST = 1, GROD_UNFINISHED = 2 };
 
 /* ---- curves: windows as pairs of numbers, start and end; a window (s, e) covers the ticks s to e - 1 */
@@ -59,23 +60,25 @@ uint32_t grod_read(const uint8_t *text, size_t text_n, uint32_t *line, uint32_t 
 
 /* Goes one tick on with the machine of a text's table. The state is the tick, each server's budget and each task's waiting work, all 0 before tick 0;
  * it is handed in and, one tick later, handed out. `*holder` is the server that holds the tick, `*runner` the task that runs in it, 0 for none.
- * Entries beyond the table's counts are not tested and pass through. Refuses 1 to 8, 13. */
+ * Entries beyond the table's counts are not tested and pass through. A refused step leaves the state as it was, and `*holder` and `*runner` are 0.
+ * Refuses 1 to 8, 13. */
 uint32_t grod_step(const uint8_t *text, size_t text_n, uint32_t *tick, uint32_t budgets[GROD_SERVERS], uint32_t waiting[GROD_TASKS], uint32_t *line,
                    uint32_t *holder, uint32_t *runner);
 
 /* Who holds a tick of the span and who runs in it, 0 for none, from the curves. Six work buffers of at least GROD_ROOM numbers are lent; every number of
- * them is 0 after an accepted call. Refuses 9, 1 to 8, 13. */
+ * them is 0 after an accepted call. `*holder` and `*runner` stay as they were after a refused one. Refuses 9, 1 to 8, 13. */
 uint32_t grod_who_at(const uint8_t *text, size_t text_n, uint32_t tick, uint32_t *free, size_t free_n, uint32_t *sum, size_t sum_n, uint32_t *part,
                      size_t part_n, uint32_t *held, size_t held_n, uint32_t *running, size_t running_n, uint32_t *spare, size_t spare_n, uint32_t *line,
                      uint32_t *holder, uint32_t *runner);
 
 /* The answers of all servers and tasks. Of server i (from 0): `full[i]` full periods in the span, `short_period[i]` the first of them, from 0, that has
- * fewer free ticks than the capacity, or GROD_NEVER. Of task j (from 0): `kind[j]`; if it is GROD_WORST, the response, the release of the first job that
- * attains it and the margin, deadline minus response, below 0 when late; if it is GROD_UNFINISHED, the release of the first job that has not ended with
- * the span; else 0. Entries beyond the counts are 0, GROD_NEVER and GROD_NONE. Work buffers as for grod_who_at. Refuses 9, 1 to 8. */
+ * fewer free ticks than the capacity, or GROD_NEVER. Of task j (from 0): `outcome[j]`; if it is GROD_WORST, the response, the release of the first job
+ * that attains it and the margin, deadline minus response, below 0 when late; if it is GROD_UNFINISHED, the release of the first job that has not ended
+ * with the span; else 0. Only the first `*servers_n` entries of `full` and `short_period` and the first `*tasks_n` of the four others are written; the
+ * entries behind them stay as they were. Work buffers as for grod_who_at. Refuses 9, 1 to 8. */
 uint32_t grod_analyse(const uint8_t *text, size_t text_n, uint32_t *free, size_t free_n, uint32_t *sum, size_t sum_n, uint32_t *part, size_t part_n,
                       uint32_t *held, size_t held_n, uint32_t *running, size_t running_n, uint32_t *spare, size_t spare_n, uint32_t *line, uint32_t *span,
-                      size_t *servers_n, size_t *tasks_n, uint32_t full[GROD_SERVERS], uint32_t short_period[GROD_SERVERS], uint32_t kind[GROD_TASKS],
+                      size_t *servers_n, size_t *tasks_n, uint32_t full[GROD_SERVERS], uint32_t short_period[GROD_SERVERS], uint32_t outcome[GROD_TASKS],
                       uint32_t response[GROD_TASKS], uint32_t release[GROD_TASKS], int32_t margin[GROD_TASKS]);
 
 /* Writes the report of a text, as the report program prints it, to the front of `out`, and how many bytes it has to `*count`. The report of a refused text

@@ -29,7 +29,7 @@ pub const SERVERS: usize = 16;
 pub const TASKS: usize = 64;
 /// The least that a work buffer holds.
 pub const ROOM: usize = 16_000;
-/// More bytes than a report has.
+/// Room for any report: it has at most 2,475 bytes, by proof (`report-short`).
 pub const REPORT: usize = 4096;
 
 /// Why a call is refused: the number of the ground, and the line of the text, counted from 1, or 0 where no line is meant.

@@ -1,5 +1,8 @@
 //! The calls as the C header has them. Where the archive is not linked, functions of the same shape refuse everything.
 
+#[cfg(test)]
+mod tests;
+
 /// Declares the calls of the archive, or what stands for them.
 macro_rules! calls {
     ($(fn $name:ident($($argument:ident: $type:ty),* $(,)?);)*) => {
@@ -37,7 +40,7 @@ calls! {
     fn grod_analyse(
         text: *const u8, text_n: usize, free: *mut u32, free_n: usize, sum: *mut u32, sum_n: usize, part: *mut u32, part_n: usize,
         held: *mut u32, held_n: usize, running: *mut u32, running_n: usize, spare: *mut u32, spare_n: usize, line: *mut u32, span: *mut u32,
-        servers_n: *mut usize, tasks_n: *mut usize, full: *mut u32, short_period: *mut u32, kind: *mut u32, response: *mut u32,
+        servers_n: *mut usize, tasks_n: *mut usize, full: *mut u32, short_period: *mut u32, outcome: *mut u32, response: *mut u32,
         release: *mut u32, margin: *mut i32,
     );
     fn grod_report(text: *const u8, text_n: usize, out: *mut u8, out_n: usize, count: *mut usize);

@@ -40,7 +40,7 @@ pub struct Who {
     pub runner: u32,
 }
 
-/// Goes one tick on with the machine of a text's table. Refuses 1 to 8, 13; the state is then as it was.
+/// Goes one tick on with the machine of a text's table. Refuses 1 to 8, 13; the state is then as it was, and nobody is said to hold the tick or to run.
 pub fn step(text: &[u8], state: &mut State) -> Result<Who, Refusal> {
     let mut line = 0;
     let mut who = Who::default();
@@ -138,12 +138,12 @@ pub struct Answers {
     pub tasks: Vec<Response>,
 }
 
-/// What the analysis hands out.
+/// What the analysis hands out. Only the entries within the counts are written.
 struct Handed {
     extent: Extent,
     full: [u32; SERVERS],
     short: [u32; SERVERS],
-    kind: [u32; TASKS],
+    outcome: [u32; TASKS],
     response: [u32; TASKS],
     release: [u32; TASKS],
     margin: [i32; TASKS],
@@ -152,7 +152,7 @@ struct Handed {
 impl Handed {
     fn new() -> Handed {
         let (servers, tasks) = ([0; SERVERS], [0; TASKS]);
-        Handed { extent: Extent::default(), full: servers, short: servers, kind: tasks, response: tasks, release: tasks, margin: [0; TASKS] }
+        Handed { extent: Extent::default(), full: servers, short: servers, outcome: tasks, response: tasks, release: tasks, margin: [0; TASKS] }
     }
 
     fn server(&self, i: usize) -> ServerAnswer {
@@ -162,7 +162,7 @@ impl Handed {
 
     fn task(&self, j: usize) -> Response {
         let release = self.release[j];
-        match self.kind[j] {
+        match self.outcome[j] {
             1 => Response::Worst { response: self.response[j], release, margin: self.margin[j] },
             2 => Response::Unfinished { release },
             _ => Response::None,
@@ -206,7 +206,7 @@ pub fn analyse(text: &[u8], work: [&mut [u32]; 6]) -> Result<Answers, Refusal> {
             &mut handed.extent.tasks,
             handed.full.as_mut_ptr(),
             handed.short.as_mut_ptr(),
-            handed.kind.as_mut_ptr(),
+            handed.outcome.as_mut_ptr(),
             handed.response.as_mut_ptr(),
             handed.release.as_mut_ptr(),
             handed.margin.as_mut_ptr(),

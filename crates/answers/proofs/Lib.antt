@@ -6,3 +6,4 @@ pub mod AfterRelease
 pub mod Saying
 pub mod Margins
 pub mod Entries
+pub mod Within

@@ -2,13 +2,13 @@
 // `n` bytes wait at the front of `out` until it is full, and are then written to standard output at once. Each function that puts answers
 // how many bytes wait after it.
 pub mod decoding;
+pub mod inputs;
 pub mod numbers;
 
 ghost use Prim.Native.Nat.{_≤_, _<_};
 ghost use lib.ListN.{length};
-ghost use Rattle.io.specs.Counts.{Counts};
 
-// How many bytes of standard input are read.
+// How many bytes of standard input are held at once: of a line of more, its line feed counted, nothing can be read.
 pub const INPUT: usize = 1_048_576;
 
 // Writes the bytes that wait.
@@ -81,30 +81,4 @@ pub fn next_line(text: &[u8], at: usize) -> usize
         i += 1;
     }
     i
-}
-
-// How many bytes the whole lines of a text have: up to the last line feed.
-pub fn whole_lines(text: &[u8]) -> usize
-    ensures { λ r. ⌜ Counts r (now (text .entry)) ⌝ }
-{
-    let mut n = text.len();
-    while 0 < n {
-        if text[n - 1] == b'\n' {
-            return n;
-        }
-        n -= 1;
-    }
-    0
-}
-
-// Reads standard input to the front of an array, and answers how many bytes are to be answered: all, or the whole lines where the array is
-// full and there may be more.
-pub fn read_lines(room: &mut [u8; INPUT]) -> usize
-    ensures { λ r. ⌜ Counts r (now (room .exit)) ⌝ }
-{
-    let n = io::read_full(libc::STDIN_FILENO, room);
-    if n < INPUT {
-        return n;
-    }
-    whole_lines(room)
 }

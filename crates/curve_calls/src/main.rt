@@ -4,18 +4,20 @@
 //     3 nd d.. ns s.. r1 r2 r3     fitting a demand into a supply, with room for supply left, served, demand left
 //     4 amount na a..              time to provide
 // The answer is `count n`, `counts l s r`, `at t`, `not provided`, or `refused number line`; behind it stands ` |` and the numbers of each lent
-// buffer. A line of any other form is answered by `bad`.
+// buffer. A line of any other form is answered by `bad`, and so is one of more than 1,048,576 bytes, its line feed counted. The input may have any
+// length, and its last line needs no line feed.
 mod printing;
 mod reading;
 
 use batch::INPUT;
 use batch::ends;
 use batch::flush;
+use batch::inputs::read_on;
+use batch::inputs::unread;
 use batch::next_line;
 use batch::numbers::next_number;
 use batch::numbers::read_number;
 use batch::put_bad;
-use batch::read_lines;
 use printing::put_fitted;
 use printing::put_provided;
 use printing::put_written;
@@ -141,20 +143,35 @@ fn run_line(text: &[u8], at: usize, out: &mut [u8; 65536], n: usize) -> usize {
 }
 
 // Runs the calls of a text, a line each.
-fn run_lines(text: &[u8]) {
-    let mut out = [0u8; 65536];
-    let mut n: usize = 0;
+fn run_lines(text: &[u8], out: &mut [u8; 65536], n: usize) -> usize {
+    let mut m = n;
     let mut at: usize = 0;
     while at < text.len() {
-        n = run_line(text, at, &mut out, n);
+        m = run_line(text, at, out, m);
         at = next_line(text, at);
+    }
+    m
+}
+
+// Reads standard input part by part and runs its calls. A proved loop has to end, and nothing says that the input does: its turns are
+// counted down from a number that no run uses up.
+fn run_input(room: &mut [u8; INPUT]) {
+    let mut out = [0u8; 65536];
+    let mut n: usize = 0;
+    let mut input = unread();
+    let mut turns = u64::MAX;
+    while 0 < turns && !input.ended {
+        input = read_on(room, input);
+        let lines = input.lines;
+        let text: &[u8] = room;
+        n = run_lines(&text[..lines], &mut out, n);
+        turns -= 1;
     }
     flush(&out, n);
 }
 
-// Reads standard input and runs its calls.
+// Lends the array for standard input.
 fn main() {
     let mut room = [0u8; INPUT];
-    let n = read_lines(&mut room);
-    run_lines(&room[..n]);
+    run_input(&mut room);
 }

@@ -40,7 +40,7 @@ wrong-place (ServerIs s) = 0
 wrong-place (TaskIs k) = 0
 wrong-place (Wrong x place) = place
 
--- ---- (d) grounds exclude each other
+-- ---- grounds exclude each other
 
 -- of two places that each are the first of their kind, none is before the other
 same-place : (P : ℕ → Bool) (p q : ℕ) → 2 ≤ p → 2 ≤ q → P p ≡ false → P q ≡ false
@@ -109,15 +109,15 @@ module _ (n servers tasks : ℕ) (line : List ℕ) where
   abbrev theWord : Word
   theWord = wordOf (fieldAt line 1)
 
-  -- (a) a line that is refused has the ground
+  -- a line that is refused has the ground
   pub refused-ground : (x : Ground) (place : ℕ) → lineOf n servers tasks line ≡ Wrong x place → LineGround n servers tasks line x place
   refused-ground x place e = subst (Judged theWord n servers tasks line) e (line-judged n servers tasks line)
 
-  -- (b) a line that has a ground is refused, on it
+  -- a line that has a ground is refused, on it
   pub ground-refuses : (x : Ground) (place : ℕ) → LineGround n servers tasks line x place → lineOf n servers tasks line ≡ Wrong x place
   ground-refuses x place g = judged-is theWord n servers tasks line (lineOf n servers tasks line) (line-judged n servers tasks line) g
 
-  -- (c) a line that says something has no ground, and one that has no ground says something
+  -- a line that says something has no ground, and one that has no ground says something
   pub said-none : goesOn (lineOf n servers tasks line) ≡ true → NoGround n servers tasks line
   said-none e x place g = both-ways e (ap goesOn (ground-refuses x place g))
 
@@ -130,7 +130,7 @@ module _ (n servers tasks : ℕ) (line : List ℕ) where
       go (TaskIs k) e = refl
       go (Wrong x place) e = absurd (h x place (refused-ground x place e))
 
-  -- (d) two grounds of a line are one: the same what at the same place
+  -- two grounds of a line are one, at one place
   pub ground-once : (x y : Ground) (p q : ℕ) → LineGround n servers tasks line x p → LineGround n servers tasks line y q → (x ≡ y) × (p ≡ q)
   ground-once x y p q g h =
       let e : Wrong x p ≡ Wrong y q = sym (ground-refuses x p g) ∙ ground-refuses y q h in

@@ -1,10 +1,12 @@
 -- What a caller in C gets of each call: 0, or the number of the refusal. "A refusal hands back number and line only and changes nothing lent": what
--- is handed out through a pointer is then as it was before, but for the line.
+-- is handed out through a pointer is then as it was before, but for the line. "A refused step also hands back the state it got, with 0 for server and
+-- task".
 use Prim.Native.Nat.{ℕ}
 use mathlib.Core.Path.{_≡_}
-use mathlib.Core.List.{List, [], _∷_}
+use mathlib.Core.List.{List, [], _∷_, _++_}
 use lib.Dec.{eqb}
 use lib.IntN.{ℤ, pos}
+use lib.ListN.{take, drop}
 use Rattle.basics.specs.Choice.{pick}
 use Rattle.windows.specs.Windows.{Instant, at, notProvided}
 use Rattle.refusals.specs.Outcomes.{Outcome, refused, answer}
@@ -68,10 +70,10 @@ shortNumber (First k) = k
 shortNumber Never = 4294967295
 
 -- 1 worst, 2 unfinished, 0 none
-abbrev pub kindNumber : Response → ℕ
-kindNumber (Worst w) = 1
-kindNumber (Unfinished release) = 2
-kindNumber None = 0
+abbrev pub outcomeNumber : Response → ℕ
+outcomeNumber (Worst w) = 1
+outcomeNumber (Unfinished release) = 2
+outcomeNumber None = 0
 
 -- 0 where there is none
 abbrev pub responseNumber : Response → ℕ
@@ -94,20 +96,26 @@ unfoldable pub each : {A B : Type 0} → (A → B) → List A → List B
 each f [] = []
 each f (a ∷ l) = f a ∷ each f l
 
-abbrev pub fulls : List ServerAnswer → List ℕ
-fulls = each (λ (a : ServerAnswer). a .full)
+-- "each result in a lent buffer starts at its front, and the rest is unchanged": one number of each of the first n entries, then the rest of the array
+-- as it was
+abbrev pub inFront : {A B : Type 0} → (A → B) → ℕ → List A → List B → List B
+inFront f n l old = each f (take n l) ++ drop n old
 
-abbrev pub shorts : List ServerAnswer → List ℕ
-shorts = each (λ (a : ServerAnswer). shortNumber (a .short))
+-- the arrays of an analysis afterwards: by the count, the answers and what was there before
+abbrev pub fulls : ℕ → List ServerAnswer → List ℕ → List ℕ
+fulls = inFront (λ (a : ServerAnswer). a .full)
 
-abbrev pub kinds : List TaskAnswer → List ℕ
-kinds = each (λ (a : TaskAnswer). kindNumber (a .response))
+abbrev pub shorts : ℕ → List ServerAnswer → List ℕ → List ℕ
+shorts = inFront (λ (a : ServerAnswer). shortNumber (a .short))
 
-abbrev pub responses : List TaskAnswer → List ℕ
-responses = each (λ (a : TaskAnswer). responseNumber (a .response))
+abbrev pub outcomes : ℕ → List TaskAnswer → List ℕ → List ℕ
+outcomes = inFront (λ (a : TaskAnswer). outcomeNumber (a .response))
 
-abbrev pub releases : List TaskAnswer → List ℕ
-releases = each (λ (a : TaskAnswer). releaseNumber (a .response))
+abbrev pub responses : ℕ → List TaskAnswer → List ℕ → List ℕ
+responses = inFront (λ (a : TaskAnswer). responseNumber (a .response))
 
-abbrev pub margins : List TaskAnswer → List ℤ
-margins = each (λ (a : TaskAnswer). marginNumber (a .response))
+abbrev pub releases : ℕ → List TaskAnswer → List ℕ → List ℕ
+releases = inFront (λ (a : TaskAnswer). releaseNumber (a .response))
+
+abbrev pub margins : ℕ → List TaskAnswer → List ℤ → List ℤ
+margins = inFront (λ (a : TaskAnswer). marginNumber (a .response))

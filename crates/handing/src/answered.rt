@@ -4,7 +4,8 @@ use crate::listing::list_tasks;
 use answers::Analysis;
 use scheduling::Who;
 ghost use mathlib.Core.Path.{_≡_};
-ghost use Rattle.handing.specs.Handing.{given, fulls, shorts, kinds, responses, releases, margins};
+ghost use Prim.Native.Nat.{_≤_};
+ghost use Rattle.handing.specs.Handing.{given, fulls, shorts, outcomes, responses, releases, margins};
 
 // Hands out who holds a tick and who runs in it.
 pub fn hand_who(who: Who, line: &mut u32, holder: &mut u32, runner: &mut u32) -> u32
@@ -21,7 +22,7 @@ pub fn hand_who(who: Who, line: &mut u32, holder: &mut u32, runner: &mut u32) ->
     0
 }
 
-// Hands out the answers of an analysis.
+// Hands out the answers of an analysis: of each array only the entries of the servers or tasks that there are.
 pub fn hand_analysis(
     analysis: Analysis,
     line: &mut u32,
@@ -30,21 +31,22 @@ pub fn hand_analysis(
     tasks_n: &mut usize,
     full: &mut [u32; 16],
     short: &mut [u32; 16],
-    kind: &mut [u32; 64],
+    outcome: &mut [u32; 64],
     response: &mut [u32; 64],
     release: &mut [u32; 64],
     margin: &mut [i32; 64],
 ) -> u32
+    requires { ⌜ (analysis .«servers_n» ≤ 16) × (analysis .«tasks_n» ≤ 64) ⌝ }
     ensures { λ r. ⌜ (r ≡ analysis .refusal .number) × (now (line .exit) ≡ analysis .refusal .line)
         × (now (span .exit) ≡ given r (analysis .span) (now (span .entry)))
         × (now («servers_n» .exit) ≡ given r (analysis .«servers_n») (now («servers_n» .entry)))
         × (now («tasks_n» .exit) ≡ given r (analysis .«tasks_n») (now («tasks_n» .entry)))
-        × (now (full .exit) ≡ given r (fulls (analysis .servers)) (now (full .entry)))
-        × (now (short .exit) ≡ given r (shorts (analysis .servers)) (now (short .entry)))
-        × (now (kind .exit) ≡ given r (kinds (analysis .tasks)) (now (kind .entry)))
-        × (now (response .exit) ≡ given r (responses (analysis .tasks)) (now (response .entry)))
-        × (now (release .exit) ≡ given r (releases (analysis .tasks)) (now (release .entry)))
-        × (now (margin .exit) ≡ given r (margins (analysis .tasks)) (now (margin .entry))) ⌝ }
+        × (now (full .exit) ≡ given r (fulls (analysis .«servers_n») (analysis .servers) (now (full .entry))) (now (full .entry)))
+        × (now (short .exit) ≡ given r (shorts (analysis .«servers_n») (analysis .servers) (now (short .entry))) (now (short .entry)))
+        × (now (outcome .exit) ≡ given r (outcomes (analysis .«tasks_n») (analysis .tasks) (now (outcome .entry))) (now (outcome .entry)))
+        × (now (response .exit) ≡ given r (responses (analysis .«tasks_n») (analysis .tasks) (now (response .entry))) (now (response .entry)))
+        × (now (release .exit) ≡ given r (releases (analysis .«tasks_n») (analysis .tasks) (now (release .entry))) (now (release .entry)))
+        × (now (margin .exit) ≡ given r (margins (analysis .«tasks_n») (analysis .tasks) (now (margin .entry))) (now (margin .entry))) ⌝ }
 {
     let refusal = analysis.refusal;
     *line = refusal.line;
@@ -56,7 +58,7 @@ pub fn hand_analysis(
     *tasks_n = analysis.tasks_n;
     let servers = analysis.servers;
     let tasks = analysis.tasks;
-    list_servers(servers, full, short);
-    list_tasks(tasks, kind, response, release, margin);
+    list_servers(servers, analysis.servers_n, full, short);
+    list_tasks(tasks, analysis.tasks_n, outcome, response, release, margin);
     0
 }

@@ -4,8 +4,9 @@ use answers::ServerAnswer;
 use answers::Short;
 use answers::TaskAnswer;
 ghost use mathlib.Core.Path.{_≡_};
+ghost use Prim.Native.Nat.{_≤_};
 ghost use lib.ListN.{length};
-ghost use Rattle.handing.specs.Handing.{shortNumber, kindNumber, responseNumber, releaseNumber, marginNumber, fulls, shorts, kinds, responses, releases, margins};
+ghost use Rattle.handing.specs.Handing.{shortNumber, outcomeNumber, responseNumber, releaseNumber, marginNumber, fulls, shorts, outcomes, responses, releases, margins};
 
 // What stands for no short period.
 pub const NONE: u32 = 4_294_967_295;
@@ -19,8 +20,8 @@ fn short_number(short: Short) -> u32
     }
 }
 
-fn kind_number(response: Response) -> u32
-    ensures { λ r. ⌜ r ≡ kindNumber response ⌝ }
+fn outcome_number(response: Response) -> u32
+    ensures { λ r. ⌜ r ≡ outcomeNumber response ⌝ }
 {
     match response {
         Response::Worst(_) => 1,
@@ -59,16 +60,13 @@ fn margin_number(response: Response) -> i32
     }
 }
 
-// Lists what is answered of the servers.
-pub fn list_servers(servers: [ServerAnswer; 16], full: &mut [u32; 16], short: &mut [u32; 16])
-    requires { ⌜ length servers ≡ 16 ⌝ }
-    ensures { λ _. ⌜ (now (full .exit) ≡ fulls servers) × (now (short .exit) ≡ shorts servers) ⌝ }
+// Lists what is answered of the first n servers.
+pub fn list_servers(servers: [ServerAnswer; 16], n: usize, full: &mut [u32], short: &mut [u32])
+    requires { ⌜ (length servers ≡ 16) × (n ≤ 16) × (n ≤ length (now full)) × (n ≤ length (now short)) ⌝ }
+    ensures { λ _. ⌜ (now (full .exit) ≡ fulls n servers (now (full .entry))) × (now (short .exit) ≡ shorts n servers (now (short .entry))) ⌝ }
 {
-    // cleared first: so it is known how many places there are
-    *full = [0; 16];
-    *short = [0; 16];
     let mut i: usize = 0;
-    while i < 16 {
+    while i < n {
         let answer = servers[i];
         let first = answer.short;
         full[i] = answer.full;
@@ -77,28 +75,25 @@ pub fn list_servers(servers: [ServerAnswer; 16], full: &mut [u32; 16], short: &m
     }
 }
 
-// Lists what is answered of the tasks.
+// Lists what is answered of the first n tasks.
 pub fn list_tasks(
     tasks: [TaskAnswer; 64],
-    kind: &mut [u32; 64],
-    response: &mut [u32; 64],
-    release: &mut [u32; 64],
-    margin: &mut [i32; 64],
+    n: usize,
+    outcome: &mut [u32],
+    response: &mut [u32],
+    release: &mut [u32],
+    margin: &mut [i32],
 )
-    requires { ⌜ length tasks ≡ 64 ⌝ }
-    ensures { λ _. ⌜ (now (kind .exit) ≡ kinds tasks) × (now (response .exit) ≡ responses tasks) × (now (release .exit) ≡ releases tasks)
-        × (now (margin .exit) ≡ margins tasks) ⌝ }
+    requires { ⌜ (length tasks ≡ 64) × (n ≤ 64) × (n ≤ length (now outcome)) × (n ≤ length (now response)) × (n ≤ length (now release))
+        × (n ≤ length (now margin)) ⌝ }
+    ensures { λ _. ⌜ (now (outcome .exit) ≡ outcomes n tasks (now (outcome .entry))) × (now (response .exit) ≡ responses n tasks (now (response .entry)))
+        × (now (release .exit) ≡ releases n tasks (now (release .entry))) × (now (margin .exit) ≡ margins n tasks (now (margin .entry))) ⌝ }
 {
-    // cleared first: so it is known how many places there are
-    *kind = [0; 64];
-    *response = [0; 64];
-    *release = [0; 64];
-    *margin = [0; 64];
     let mut j: usize = 0;
-    while j < 64 {
+    while j < n {
         let answer = tasks[j];
         let said = answer.response;
-        kind[j] = kind_number(said);
+        outcome[j] = outcome_number(said);
         response[j] = response_number(said);
         release[j] = release_number(said);
         margin[j] = margin_number(said);

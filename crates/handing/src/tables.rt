@@ -4,7 +4,6 @@ use refusals::Refusal;
 use table::Table;
 ghost use mathlib.Core.Path.{_≡_};
 ghost use Rattle.machine.specs.Machine.{stepOf};
-ghost use Rattle.handing.specs.Handing.{given};
 
 // Hands out the line of a refusal, and answers its number.
 pub fn hand_refusal(refusal: Refusal, line: &mut u32) -> u32
@@ -32,7 +31,16 @@ pub fn hand_table(
     0
 }
 
-// Goes one tick on with a table's machine.
+// Hands out that no step was done: the line of the refusal, and 0 for holder and runner. Answers the refusal's number.
+pub fn hand_no_step(refusal: Refusal, line: &mut u32, holder: &mut u32, runner: &mut u32) -> u32
+    ensures { λ r. ⌜ (r ≡ refusal .number) × (now (line .exit) ≡ refusal .line) × (now (holder .exit) ≡ 0) × (now (runner .exit) ≡ 0) ⌝ }
+{
+    *holder = 0;
+    *runner = 0;
+    hand_refusal(refusal, line)
+}
+
+// Goes one tick on with a table's machine. A refused step has the state it got, and 0 for holder and runner.
 pub fn step_table(
     table: Table,
     tick: &mut u32,
@@ -46,8 +54,8 @@ pub fn step_table(
         × (now (line .exit) ≡ stepOf table (record { tick = now (tick .entry); budgets = now (budgets .entry); waiting = now (waiting .entry) }) .refusal .line)
         × (_≡_ {A = State} (record { tick = now (tick .exit); budgets = now (budgets .exit); waiting = now (waiting .exit) })
         (stepOf table (record { tick = now (tick .entry); budgets = now (budgets .entry); waiting = now (waiting .entry) }) .next))
-        × (now (holder .exit) ≡ given r (stepOf table (record { tick = now (tick .entry); budgets = now (budgets .entry); waiting = now (waiting .entry) }) .holder) (now (holder .entry)))
-        × (now (runner .exit) ≡ given r (stepOf table (record { tick = now (tick .entry); budgets = now (budgets .entry); waiting = now (waiting .entry) }) .runner) (now (runner .entry))) ⌝ }
+        × (now (holder .exit) ≡ stepOf table (record { tick = now (tick .entry); budgets = now (budgets .entry); waiting = now (waiting .entry) }) .holder)
+        × (now (runner .exit) ≡ stepOf table (record { tick = now (tick .entry); budgets = now (budgets .entry); waiting = now (waiting .entry) }) .runner) ⌝ }
 {
     let old_budgets = *budgets;
     let old_waiting = *waiting;
@@ -59,6 +67,8 @@ pub fn step_table(
     let stepped = state.step(table);
     let refused = stepped.refusal;
     *line = refused.line;
+    *holder = stepped.holder;
+    *runner = stepped.runner;
     if refused.number != 0 {
         return refused.number;
     }
@@ -68,7 +78,5 @@ pub fn step_table(
     let new_waiting = next.waiting;
     *budgets = new_budgets;
     *waiting = new_waiting;
-    *holder = stepped.holder;
-    *runner = stepped.runner;
     0
 }

@@ -9,17 +9,17 @@ use Rattle.windows.specs.Windows.{cover}
 use Rattle.holding.specs.declared.Place.{Place}
 use Rattle.holding.specs.declared.Piece.{Piece}
 use Rattle.buffers.specs.Parts.{Curve, Drawn, with-window}
-use Rattle.holding.specs.Pieces.{heldOf, leftOf, windowBehind, Leaves, Holds, Cuts, Served, Skipped}
+use Rattle.holding.specs.Pieces.{heldFrom, leftFrom, windowBehind, Leaves, Holds, Cuts, Served, Skipped}
 use Rattle.holding.proofs.HeldBlocks.{held-not-free}
 use Rattle.holding.proofs.DrawnSoFar.{DrawnBelow, drawn-none, drawn-curve, drawn-on, drawn-window, drawn-all}
 use Rattle.holding.proofs.HoldTurns.{Given, Stands, Turn, turn-free, turn-idle, turn-left, ticks-held, stands-skipped, stands-served}
 
 pub record Draws (C T : ℕ) (demand free held₀ left₀ held left : List ℕ) (n m at : ℕ) : Type 0 where
-  pub in-held : DrawnBelow held₀ held n (heldOf C T demand free) at
-  pub in-left : DrawnBelow left₀ left m (leftOf C T demand free) at
+  pub in-held : DrawnBelow held₀ held n (heldFrom C T demand free) at
+  pub in-left : DrawnBelow left₀ left m (leftFrom C T demand free) at
 
 pub draws-none : (C T : ℕ) (demand free held left : List ℕ) → Draws C T demand free held left held left 0 0 0
-draws-none C T demand free held left = record { in-held = drawn-none held (heldOf C T demand free); in-left = drawn-none left (leftOf C T demand free) }
+draws-none C T demand free held left = record { in-held = drawn-none held (heldFrom C T demand free); in-left = drawn-none left (leftFrom C T demand free) }
 
 -- there is room for a piece in either buffer
 pub draws-room : {C T : ℕ} {demand free old new : List ℕ} {from i n s : ℕ} {w : Place} {piece : Piece} {g : ℕ → ℕ} → Turn C T demand free from w i → w .at ≡ s
@@ -33,7 +33,7 @@ turn-less u c e = omega (arith, c .some, c .within, u .most, u .on)
 
 module _ {C T : ℕ} {demand free : List ℕ} {from : ℕ} {w : Place} {i : ℕ} (u : Turn C T demand free from w i) where
   -- before the piece nothing is free
-  quiet-left : (t : ℕ) → from ≤ t → t < w .at → leftOf C T demand free t ≡ 0
+  quiet-left : (t : ℕ) → from ≤ t → t < w .at → leftFrom C T demand free t ≡ 0
   quiet-left t k l = omega (arith, u .quiet t k l)
 
   draws-held : {held₀ left₀ held left out : List ℕ} {n m k stop : ℕ} → Draws C T demand free held₀ left₀ held left n m from → stop ≤ getD free (i + 1) 0
@@ -74,7 +74,7 @@ module _ {C T : ℕ} {demand free : List ℕ} {from : ℕ} {w : Place} {i : ℕ}
 
 pub draws-all : {C T : ℕ} {demand free held₀ left₀ held left : List ℕ} {w : Place} {i n m : ℕ} → Given T demand free → Stands C T demand free w i
     → length free ≤ i → Draws C T demand free held₀ left₀ held left n m (w .at)
-    → Drawn held₀ held n (heldOf C T demand free) × Drawn left₀ left m (leftOf C T demand free)
+    → Drawn held₀ held n (heldFrom C T demand free) × Drawn left₀ left m (leftFrom C T demand free)
 draws-all {C} {T} {demand} {free} {w = w} g s k d =
     (drawn-all (d .in-held) (λ t l. held-not-free C T (cover demand) (cover free) (g .some) t (over t l)), drawn-all (d .in-left) (λ t l. omega (arith, over t l)))
   where

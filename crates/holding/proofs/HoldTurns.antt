@@ -8,7 +8,7 @@ use Rattle.windows.specs.Windows.{cover, upto}
 use Rattle.windows.proofs.Counts.{upto-rises}
 use Rattle.holding.specs.declared.Place.{Place}
 use Rattle.buffers.specs.Parts.{PlainBelow}
-use Rattle.holding.specs.Pieces.{heldOf, firstPlace, windowBehind, Entered, Offered, Holds, Leaves, done, later, spent, Moved, part, whole, Served, Skipped}
+use Rattle.holding.specs.Pieces.{heldFrom, firstPlace, windowBehind, Entered, Offered, Holds, Leaves, done, later, spent, Moved, part, whole, Served, Skipped}
 use Rattle.windows.proofs.WindowsAt.{WindowAt, window-at, window-below}
 use Rattle.holding.proofs.HeldBlocks.{upto-still, upto-ones, held-not-free, idle-done, idle-spent, busy-block}
 use Rattle.holding.proofs.Standing.{Wants, wants-first, wants-on, wants-part, wants-whole, wants-comes, Paced, Under, paced-first, paced-enter, paced-on, paced-served, Offers, offers-first, offers-next}
@@ -23,15 +23,15 @@ pub record Given (T : ℕ) (demand free : List ℕ) : Type 0 where
 
 pub record Stands (C T : ℕ) (demand free : List ℕ) (w : Place) (i : ℕ) : Type 0 where
   pub most : w .at ≤ 16000
-  pub wants : Wants demand (heldOf C T demand free) (w .demand) (w .wanted) (w .at)
-  pub paced : Paced C T (heldOf C T demand free) (w .at) (w .until) (w .budget)
+  pub wants : Wants demand (heldFrom C T demand free) (w .demand) (w .wanted) (w .at)
+  pub paced : Paced C T (heldFrom C T demand free) (w .at) (w .until) (w .budget)
   pub offers : Offers free i (w .at)
 
 pub stands-first : (C : ℕ) {T : ℕ} {demand free : List ℕ} → Given T demand free → Stands C T demand free (firstPlace demand) 0
 stands-first C {T} {demand} {free} g = record {
   most = omega arith;
-  wants = wants-first demand (heldOf C T demand free) (g .wanted .plain);
-  paced = paced-first C T (heldOf C T demand free);
+  wants = wants-first demand (heldFrom C T demand free) (g .wanted .plain);
+  paced = paced-first C T (heldFrom C T demand free);
   offers = offers-first free (g .offered .plain);
 }
 
@@ -48,8 +48,8 @@ pub record Turn (C T : ℕ) (demand free : List ℕ) (from : ℕ) (w : Place) (i
   pub given : Given T demand free
   pub window : WindowAt 0 free i
   pub most : getD free (i + 1) 0 ≤ 16000
-  pub wants : Wants demand (heldOf C T demand free) (w .demand) (w .wanted) (w .at)
-  pub under : Under C T (heldOf C T demand free) (w .at) (w .until) (w .budget)
+  pub wants : Wants demand (heldFrom C T demand free) (w .demand) (w .wanted) (w .at)
+  pub under : Under C T (heldFrom C T demand free) (w .at) (w .until) (w .budget)
   pub offers : Offers free i from
   pub on : from ≤ w .at
   pub low : getD free i 0 ≤ w .at
@@ -74,12 +74,12 @@ turn-in {C} {T} {demand} {free} {w} {r} {i} {at} g s k e n =
     })
   where
     h : ℕ → ℕ
-    h = heldOf C T demand free
+    h = heldFrom C T demand free
 
     quiet : (t : ℕ) → w .at ≤ t → t < at → cover free t ≡ 0
     quiet t l m = s .offers .gap t l (λ o. omega arith)
 
-    idle : (t : ℕ) → w .at ≤ t → t < at → heldOf C T demand free t ≡ 0
+    idle : (t : ℕ) → w .at ≤ t → t < at → heldFrom C T demand free t ≡ 0
     idle t l m = held-not-free C T (cover demand) (cover free) (g .some) t (quiet t l m)
 
 -- ---- what is free and what is held
@@ -97,11 +97,11 @@ module _ {C T : ℕ} {demand free : List ℕ} {from : ℕ} {w : Place} {i : ℕ}
   pub turn-free : (stop : ℕ) → stop ≤ getD free (i + 1) 0 → (t : ℕ) → w .at ≤ t → t < stop → cover free t ≡ 1
   turn-free stop k t l m = u .window .inner t (omega (arith, u .low)) (omega arith)
 
-  pub turn-idle : (t : ℕ) → from ≤ t → t < w .at → heldOf C T demand free t ≡ 0
+  pub turn-idle : (t : ℕ) → from ≤ t → t < w .at → heldFrom C T demand free t ≡ 0
   turn-idle t l m = held-not-free C T (cover demand) (cover free) (u .given .some) t (u .quiet t l m)
 
   -- nothing is held of a piece that is left
-  pub turn-left : (stop : ℕ) → Leaves demand w stop → (t : ℕ) → w .at ≤ t → t < stop → heldOf C T demand free t ≡ 0
+  pub turn-left : (stop : ℕ) → Leaves demand w stop → (t : ℕ) → w .at ≤ t → t < stop → heldFrom C T demand free t ≡ 0
   turn-left stop (done k) t l m = idle-done C T (cover demand) (cover free) (u .given .some) (w .at) t l (u .wants .none k (suc t))
   turn-left stop (later k e) t l m =
       idle-done C T (cover demand) (cover free) (u .given .some) (w .at) t l
@@ -110,8 +110,8 @@ module _ {C T : ℕ} {demand free : List ℕ} {from : ℕ} {w : Place} {i : ℕ}
       idle-spent C T (cover demand) (cover free) (u .given .some) (w .until) (w .at) t (u .under .turn) l (omega arith) (u .under .far)
       (omega (arith, u .under .left))
 
-  -- every tick is held of a piece that is heldOf
-  pub ticks-held : (stop : ℕ) → stop ≤ getD free (i + 1) 0 → Holds demand w stop → (t : ℕ) → w .at ≤ t → t < stop → heldOf C T demand free t ≡ 1
+  -- every tick is held of a piece that is to be held
+  pub ticks-held : (stop : ℕ) → stop ≤ getD free (i + 1) 0 → Holds demand w stop → (t : ℕ) → w .at ≤ t → t < stop → heldFrom C T demand free t ≡ 1
   ticks-held stop k q =
       busy-block C T (cover demand) (cover free) (u .given .some) (w .until) (w .at) stop (w .budget) (u .under .turn) (u .under .far) (u .under .left)
       (q .period) (q .budget) (turn-free stop k)
@@ -128,13 +128,13 @@ module _ {C T : ℕ} {demand free : List ℕ} {from : ℕ} {w : Place} {i : ℕ}
       let idle = turn-left stop q in
       record {
         most = omega (arith, p .there, u .most);
-        wants = rw (p .demand, p .wanted, p .there) (wants-on (u .wants) (upto-still (heldOf C T demand free) (w .at) stop (omega arith) idle));
+        wants = rw (p .demand, p .wanted, p .there) (wants-on (u .wants) (upto-still (heldFrom C T demand free) (w .at) stop (omega arith) idle));
         paced = rw (p .there, p .until, p .budget) (paced-on (u .given .some) (u .under) stop (omega arith) idle);
         offers = rw (p .there) (turn-offers stop k l);
       }
 
-  wants-served : {stop : ℕ} {r : Place} → Holds demand w stop → upto (heldOf C T demand free) stop + w .at ≡ upto (heldOf C T demand free) (w .at) + stop
-      → Moved demand w stop r → Wants demand (heldOf C T demand free) (r .demand) (r .wanted) stop
+  wants-served : {stop : ℕ} {r : Place} → Holds demand w stop → upto (heldFrom C T demand free) stop + w .at ≡ upto (heldFrom C T demand free) (w .at) + stop
+      → Moved demand w stop r → Wants demand (heldFrom C T demand free) (r .demand) (r .wanted) stop
   wants-served {stop} {r} q e (part k d v) =
       rw d (wants-part (u .given .wanted .plain) (u .wants) (omega (arith, q .pair)) (omega (arith, q .some)) e v (omega arith))
   wants-served {stop} {r} q e (whole k d v) =
@@ -143,7 +143,7 @@ module _ {C T : ℕ} {demand free : List ℕ} {from : ℕ} {w : Place} {i : ℕ}
   pub stands-served : {stop : ℕ} {r : Place} → stop ≤ getD free (i + 1) 0 → Holds demand w stop → Served demand w stop r
       → Stands C T demand free r (windowBehind free i stop)
   stands-served {stop} {r} l q p =
-      let e = upto-ones (heldOf C T demand free) (w .at) stop (omega (arith, q .some)) (ticks-held stop l q) in
+      let e = upto-ones (heldFrom C T demand free) (w .at) stop (omega (arith, q .some)) (ticks-held stop l q) in
       record {
         most = omega (arith, p .there, u .most);
         wants = rw (p .there) (wants-served q e (p .moved));

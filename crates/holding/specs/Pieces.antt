@@ -12,11 +12,11 @@ use Rattle.holding.specs.declared.Place.{Place}
 use Rattle.holding.specs.declared.Piece.{Piece}
 
 -- the ticks of a free curve that a demand takes, at most C in each period of T ticks, and those that it leaves
-abbrev pub heldOf : ℕ → ℕ → List ℕ → List ℕ → ℕ → ℕ
-heldOf C T demand free = held C T (cover demand) (cover free)
+abbrev pub heldFrom : ℕ → ℕ → List ℕ → List ℕ → ℕ → ℕ
+heldFrom C T demand free = held C T (cover demand) (cover free)
 
-abbrev pub leftOf : ℕ → ℕ → List ℕ → List ℕ → ℕ → ℕ
-leftOf C T demand free t = cover free t - heldOf C T demand free t
+abbrev pub leftFrom : ℕ → ℕ → List ℕ → List ℕ → ℕ → ℕ
+leftFrom C T demand free t = cover free t - heldFrom C T demand free t
 
 -- before the first tick, with no period under way
 abbrev pub firstPlace : List ℕ → Place

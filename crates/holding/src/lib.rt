@@ -6,7 +6,7 @@ ghost use mathlib.Core.Path.{_≡_};
 ghost use Prim.Native.Nat.{_+_, _-_, _%_, _≤_, _<_};
 ghost use lib.ListN.{length, getD};
 ghost use Rattle.buffers.specs.Parts.{PlainBelow, Drawn};
-ghost use Rattle.holding.specs.Pieces.{heldOf, leftOf, firstPlace, windowBehind, Entered, Offered, Holds, Cuts, Served, Skipped};
+ghost use Rattle.holding.specs.Pieces.{heldFrom, leftFrom, firstPlace, windowBehind, Entered, Offered, Holds, Cuts, Served, Skipped};
 
 // Where the walk stands: every tick below `at` is decided, the demand not yet served starts at `wanted`, in the window at `demand`; the period
 // under way ends at `until` and has `budget` left.
@@ -188,8 +188,8 @@ pub fn hold(
 ) -> Counts
     requires { ⌜ (0 < period) × (period ≤ 16000) × (capacity ≤ 16000) × PlainBelow 16000 (now demand) × PlainBelow 16000 (now free)
         × (16000 ≤ length (now held)) × (16000 ≤ length (now left)) ⌝ }
-    ensures { λ r. ⌜ Drawn (now (held .entry)) (now (held .exit)) (r .held) (heldOf capacity period (now (demand .entry)) (now (free .entry)))
-        × Drawn (now (left .entry)) (now (left .exit)) (r .left) (leftOf capacity period (now (demand .entry)) (now (free .entry))) ⌝ }
+    ensures { λ r. ⌜ Drawn (now (held .entry)) (now (held .exit)) (r .held) (heldFrom capacity period (now (demand .entry)) (now (free .entry)))
+        × Drawn (now (left .entry)) (now (left .exit)) (r .left) (leftFrom capacity period (now (demand .entry)) (now (free .entry))) ⌝ }
 {
     let mut place = start(demand);
     let mut counts = Counts { held: 0, left: 0 };

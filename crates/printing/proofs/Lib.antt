@@ -1,2 +1,3 @@
+pub mod Lengths
 pub mod Listings
 pub mod Examples

@@ -61,9 +61,12 @@ digits-length (suc j) k n h = go (decLt n 10) k h (λ i. digits-length j i (n / 
         rw (digits-more j n (omega (arith, p)), length-append (digits j (n / 10)) ((48 + n % 10) ∷ []))
         (omega (arith, e i (omega arith)))
 
+pub decimal-below : (k n : ℕ) → n < 10 ^ suc k → length (decimal n) ≤ suc k
+decimal-below k n h = digits-length (suc n) k n h
+
 -- a `u32` has at most ten
 pub decimal-length : (n : ℕ) → Fits w32 n → length (decimal n) ≤ 10
-decimal-length n h = digits-length (suc n) 9 n (omega (arith, h .fits))
+decimal-length n h = decimal-below 9 n (omega (arith, h .fits))
 
 -- ---- what is written is read back
 
@@ -147,5 +150,5 @@ module _ (n : ℕ) (l : List ℕ) (w : Written n l) where
 pub decimal-reads : (n : ℕ) → n ≤ 99999 → fieldNumber (decimal n) ≡ Value n
 decimal-reads n h =
     let w = digits-written (suc n) n (omega arith) in
-    let five = digits-length (suc n) 4 n (omega arith) in
+    let five = decimal-below 4 n (omega arith) in
     rw (written-some n _ w, written-word n _ w, written-digits n _ w, written-starts n _ w, le-leb _ 5 five, written-value n _ w)

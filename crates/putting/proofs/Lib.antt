@@ -1,4 +1,5 @@
 pub mod Decimals
+pub mod Lengths
 pub mod Numbers
 pub mod Puts
 pub mod Signs

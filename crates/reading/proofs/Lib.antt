@@ -1,3 +1,5 @@
 pub mod Rows
 pub mod Accepted
+pub mod LineCounts
 pub mod TurnedAway
+pub mod Examples

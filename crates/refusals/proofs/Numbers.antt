@@ -1,28 +1,34 @@
 -- Whether a call was accepted can be told from its number. Assumes nothing.
-use Prim.Native.Nat.{_<_}
+use Prim.Native.Nat.{_≤_, _<_}
 use native.Mathlib.Omega.{arith}
 use Rattle.refusals.specs.Refusals.{numberOf}
 use Rattle.refusals.specs.declared.Ground.{Ground}
 use Rattle.refusals.specs.declared.Ground.the-variants as ground
 
--- a refusal's number is from 1 on
+-- a refusal's number is from 1 to 13
+number-within : (g : Ground) → (0 < numberOf g) × (numberOf g ≤ 13)
+number-within ground.TextTooLong = (omega arith, omega arith)
+number-within ground.NotEnded = (omega arith, omega arith)
+number-within ground.Misplaced = (omega arith, omega arith)
+number-within ground.Missing = (omega arith, omega arith)
+number-within ground.TooMany = (omega arith, omega arith)
+number-within ground.FieldCount = (omega arith, omega arith)
+number-within ground.Empty = (omega arith, omega arith)
+number-within ground.Dash = (omega arith, omega arith)
+number-within ground.NoDigit = (omega arith, omega arith)
+number-within ground.LeadingZero = (omega arith, omega arith)
+number-within ground.TooManyDigits = (omega arith, omega arith)
+number-within ground.UnknownKind = (omega arith, omega arith)
+number-within ground.OutOfRange = (omega arith, omega arith)
+number-within ground.MultipleOver = (omega arith, omega arith)
+number-within ground.WorkRoom = (omega arith, omega arith)
+number-within ground.NotPlain = (omega arith, omega arith)
+number-within ground.NoRoom = (omega arith, omega arith)
+number-within ground.ArgumentZero = (omega arith, omega arith)
+number-within ground.OutOfStep = (omega arith, omega arith)
+
 pub number-some : (g : Ground) → 0 < numberOf g
-number-some ground.TextTooLong = omega arith
-number-some ground.NotEnded = omega arith
-number-some ground.Misplaced = omega arith
-number-some ground.Missing = omega arith
-number-some ground.TooMany = omega arith
-number-some ground.FieldCount = omega arith
-number-some ground.Empty = omega arith
-number-some ground.Dash = omega arith
-number-some ground.NoDigit = omega arith
-number-some ground.LeadingZero = omega arith
-number-some ground.TooManyDigits = omega arith
-number-some ground.UnknownKind = omega arith
-number-some ground.OutOfRange = omega arith
-number-some ground.MultipleOver = omega arith
-number-some ground.WorkRoom = omega arith
-number-some ground.NotPlain = omega arith
-number-some ground.NoRoom = omega arith
-number-some ground.ArgumentZero = omega arith
-number-some ground.OutOfStep = omega arith
+number-some g = number-within g .0
+
+pub number-most : (g : Ground) → numberOf g ≤ 13
+number-most g = number-within g .1

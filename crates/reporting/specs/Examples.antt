@@ -1,10 +1,9 @@
--- Document 01: the printed report of table A, and those of tables B and C (examples 11 and 12), to the byte.
+-- Document 01: the printed report of table A, and those of tables B and C (examples 11 and 12), from the text to the byte.
 use Prim.Native.Nat.{ℕ}
 use mathlib.Core.Path.{_≡_}
 use mathlib.Core.List.{List, [], _∷_}
-use Rattle.machine.specs.Examples.{tableA, tableB, tableC}
-use Rattle.scheduling.specs.Analysing.{analysed}
-use Rattle.printing.specs.Report.{reportOf}
+use Rattle.reading.specs.Examples.{textA, textB, textC}
+use Rattle.reporting.specs.Reporting.{reportFor}
 
 -- span 40
 -- server 1 4 -
@@ -48,6 +47,6 @@ printedC =
     ∷ 116 ∷ 97 ∷ 115 ∷ 107 ∷ 9 ∷ 50 ∷ 9 ∷ 119 ∷ 111 ∷ 114 ∷ 115 ∷ 116 ∷ 9 ∷ 51 ∷ 9 ∷ 48 ∷ 9 ∷ 45 ∷ 49 ∷ 10 ∷ []
 
 pub record Checked : Type 0 where
-  pub table-a : reportOf (analysed tableA) ≡ printedA
-  pub table-b : reportOf (analysed tableB) ≡ printedB
-  pub table-c : reportOf (analysed tableC) ≡ printedC
+  pub table-a : reportFor textA ≡ printedA
+  pub table-b : reportFor textB ≡ printedB
+  pub table-c : reportFor textC ≡ printedC

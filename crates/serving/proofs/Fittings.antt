@@ -15,18 +15,18 @@ use Rattle.buffers.specs.Parts.{PlainBelow, Curve, Drawn, Wrote}
 use Rattle.buffers.proofs.Fronts.{plain-room}
 use Rattle.demands.specs.Walks.{TaskObeyed}
 use Rattle.demands.proofs.Additions.{plain-higher, demand-plain}
-use Rattle.holding.specs.Pieces.{heldOf, leftOf}
+use Rattle.holding.specs.Pieces.{heldFrom, leftFrom}
 use Rattle.serving.proofs.ServerTicks.{drawn-is}
 
 module _ (d s : List ℕ) (p : isPlain d ≡ true) (q : isPlain s ≡ true) where
-  -- what is served is what is heldOf
-  served-covers : (t : ℕ) → cover (fit d s .served) t ≡ heldOf 16000 16000 d s t
+  -- what is served is what is held
+  served-covers : (t : ℕ) → cover (fit d s .served) t ≡ heldFrom 16000 16000 d s t
   served-covers t =
       ap (λ (f : ℕ → ℕ). f t)
       (fit-ticks d s p q ∙ sym (held-unlimited 16000 16000 (cover d) (cover s) (omega arith) (λ u. cover-one s 0 u (plain-apart 0 s q)) (omega arith)))
 
   -- and the rest is left
-  left-covers : (t : ℕ) → cover (fit d s .left) t ≡ leftOf 16000 16000 d s t
+  left-covers : (t : ℕ) → cover (fit d s .left) t ≡ leftFrom 16000 16000 d s t
   left-covers t = omega (arith, fit-leaves d s p q t, served-covers t)
 
 -- a task's demand at the front of one buffer, and what is left to it at the front of another
@@ -44,7 +44,7 @@ module _ {task : Task} {span m n : ℕ} {first part held : List ℕ} (ok : TaskO
   share-supply = plain-higher span 16000 _ h (c .curve)
 
   -- what the walk writes is what fitting serves
-  pub share-serves : {old new : List ℕ} {k : ℕ} → Drawn old new k (heldOf 16000 16000 (take m part) (take n held))
+  pub share-serves : {old new : List ℕ} {k : ℕ} → Drawn old new k (heldFrom 16000 16000 (take m part) (take n held))
       → Wrote old new k (fit (demandOf span task) (take n held) .served)
   share-serves v =
       rw (w .front) at
@@ -52,7 +52,7 @@ module _ {task : Task} {span m n : ℕ} {first part held : List ℕ} (ok : TaskO
       (served-covers _ _ (demand-below .plain) (c .curve .plain)) v)
 
   -- and what it leaves
-  pub share-leaves : {old new : List ℕ} {k : ℕ} → Drawn old new k (leftOf 16000 16000 (take m part) (take n held))
+  pub share-leaves : {old new : List ℕ} {k : ℕ} → Drawn old new k (leftFrom 16000 16000 (take m part) (take n held))
       → Wrote old new k (fit (demandOf span task) (take n held) .left)
   share-leaves v =
       rw (w .front) at
@@ -60,7 +60,7 @@ module _ {task : Task} {span m n : ℕ} {first part held : List ℕ} (ok : TaskO
       (left-covers _ _ (demand-below .plain) (c .curve .plain)) v)
 
   -- for which there is room where the supply was
-  pub share-room : {old new : List ℕ} {k : ℕ} → Drawn old new k (leftOf 16000 16000 (take m part) (take n held)) → length (take k new) ≤ length held
+  pub share-room : {old new : List ℕ} {k : ℕ} → Drawn old new k (leftFrom 16000 16000 (take m part) (take n held)) → length (take k new) ≤ length held
   share-room {new = new} {k = k} v =
       let over : (t : ℕ) → 16000 ≤ t → cover (take k new) t ≡ 0 = λ t g. v .covers t ∙ omega (arith, share-supply .over t g) in
       omega (arith, plain-room (take k new) (record { plain = v .plain; over = over }), c .room)

@@ -19,7 +19,7 @@ use Rattle.windows.proofs.Capacity.{held-is-free}
 use Rattle.schedule.proofs.Capacities.{held-past, first-free-is-held}
 use Rattle.schedule.proofs.BelowEnd.{windows-inside, windows-below, holding-free}
 use Rattle.buffers.specs.Parts.{PlainBelow, Curve, Drawn, Wrote, with-window}
-use Rattle.holding.specs.Pieces.{heldOf, leftOf}
+use Rattle.holding.specs.Pieces.{heldFrom, leftFrom}
 use Rattle.serving.specs.Wanted.{wantedBy, wantedOf}
 use Rattle.demands.proofs.Additions.{plain-below, plain-higher}
 use Rattle.buffers.proofs.Fronts.{plain-room}
@@ -82,7 +82,7 @@ module _ (table : Table) (ok : Obeyed table) (i : ℕ) (h : i < table .«servers
   unit t = cover-one free 0 t (plain-apart 0 free (p .plain))
 
   -- what would be held is fitted in as it would be without an end
-  holding-held : (kind : Kind) (t : ℕ) → t < H → holding kind C T (summed table i) free t ≡ heldOf C T (wantedBy kind table i) free t
+  holding-held : (kind : Kind) (t : ℕ) → t < H → holding kind C T (summed table i) free t ≡ heldFrom C T (wantedBy kind table i) free t
   holding-held Deferrable t k = refl
   holding-held Periodic t k =
       ap (λ (f : ℕ → ℕ). f t) (first-free-is-held C T (cover free) (server-period table ok i h) unit)
@@ -91,12 +91,12 @@ module _ (table : Table) (ok : Obeyed table) (i : ℕ) (h : i < table .«servers
   abbrev hold : ℕ → ℕ
   hold = holding (serverAt table i .kind) C T (summed table i) free
 
-  -- the held curve covers what is heldOf
-  pub held-covers : (t : ℕ) → cover (heldIn table i free) t ≡ heldOf C T (wantedOf table i) free t
+  -- the held curve covers what is held
+  pub held-covers : (t : ℕ) → cover (heldIn table i free) t ≡ heldFrom C T (wantedOf table i) free t
   unfolding heldIn
   held-covers t = go (decLt t H)
     where
-      go : Dec (t < H) → cover (windowsOf hold H) t ≡ heldOf C T (wantedOf table i) free t
+      go : Dec (t < H) → cover (windowsOf hold H) t ≡ heldFrom C T (wantedOf table i) free t
       go (yes k) =
           windows-below hold H t (λ u. omega (arith, holding-free C T (summed table i) free (serverAt table i .kind) u, unit u)) k
           ∙ holding-held (serverAt table i .kind) t k
@@ -112,10 +112,10 @@ module _ (table : Table) (ok : Obeyed table) (i : ℕ) (h : i < table .«servers
   abbrev rest : ℕ → ℕ
   rest t = cover free t - cover (heldIn table i free) t
 
-  pub left-covers : (t : ℕ) → cover (without H free (heldIn table i free)) t ≡ leftOf C T (wantedOf table i) free t
+  pub left-covers : (t : ℕ) → cover (without H free (heldIn table i free)) t ≡ leftFrom C T (wantedOf table i) free t
   left-covers t = go (decLt t H)
     where
-      go : Dec (t < H) → cover (windowsOf rest H) t ≡ leftOf C T (wantedOf table i) free t
+      go : Dec (t < H) → cover (windowsOf rest H) t ≡ leftFrom C T (wantedOf table i) free t
       go (yes k) = windows-below rest H t (λ u. omega (arith, unit u)) k ∙ ap (λ n. cover free t - n) (held-covers t)
       go (no k) = let late : H ≤ t = omega arith in omega (arith, windows-inside rest H .over t late, p .over t late)
 
@@ -124,12 +124,12 @@ module _ (table : Table) (ok : Obeyed table) (i : ℕ) (h : i < table .«servers
 
   -- the walk along both curves writes them
   module _ (demand : List ℕ) (e : demand ≡ wantedOf table i) where
-    pub server-holds : {n : ℕ} {old new : List ℕ} → Drawn old new n (heldOf C T demand free) → Wrote old new n (heldIn table i free)
+    pub server-holds : {n : ℕ} {old new : List ℕ} → Drawn old new n (heldFrom C T demand free) → Wrote old new n (heldIn table i free)
     server-holds d = drawn-is (heldIn table i free) (held-plain .plain) (λ t. rw e (held-covers t)) d
 
-    pub server-leaves : {n : ℕ} {old new : List ℕ} → Drawn old new n (leftOf C T demand free) → Wrote old new n (without H free (heldIn table i free))
+    pub server-leaves : {n : ℕ} {old new : List ℕ} → Drawn old new n (leftFrom C T demand free) → Wrote old new n (without H free (heldIn table i free))
     server-leaves d = drawn-is (without H free (heldIn table i free)) (left-plain .plain) (λ t. rw e (left-covers t)) d
 
     -- and there is room for what is left
-    pub leaves-room : {n : ℕ} {old new : List ℕ} → Drawn old new n (leftOf C T demand free) → length (take n new) ≤ 16000
+    pub leaves-room : {n : ℕ} {old new : List ℕ} → Drawn old new n (leftFrom C T demand free) → length (take n new) ≤ 16000
     leaves-room d = rw (server-leaves d .front) (plain-room _ (plain-higher H 16000 _ (span-most table ok) left-plain))

@@ -12,13 +12,15 @@
 //                                  `refused number line`, and behind ` |` for each buffer `zero` where all of it is 0 and the guard behind it as it
 //                                  was, `same` where both are, `other` elsewhere. Number i was 7,000,000 + i, of 16,016 with the guard
 //     7 tick a b c d e f HEX       who holds a tick, from the curves: `who holder runner` or `refused number line`, and the same for each buffer
-// A line that starts with `#` is copied, and a line of any other form is answered by `bad`.
+// A line that starts with `#` is copied, and a line of any other form is answered by `bad`; so is every line of more than 1,048,576 bytes, its
+// line feed counted. The input may have any length, and its last line needs no line feed.
 use batch::INPUT;
 use batch::flush;
+use batch::inputs::read_on;
+use batch::inputs::unread;
 use batch::next_line;
 use batch::put_bad;
 use batch::put_word;
-use batch::read_lines;
 use text_buffers::Call;
 use text_buffers::put_call;
 use text_lines::asking::Asked;
@@ -63,24 +65,33 @@ fn run_line(line: &[u8], out: &mut [u8; 65536], n: usize) -> usize
     answer(read_line(line), out, n)
 }
 
-// Answers the lines of an input.
-fn run_lines(input: &[u8]) {
-    let mut out = [0u8; 65536];
-    let mut n: usize = 0;
+// Answers the lines of a text.
+fn run_lines(text: &[u8], out: &mut [u8; 65536], n: usize) -> usize {
+    let mut m = n;
     let mut at: usize = 0;
-    while at < input.len() {
-        let behind = next_line(input, at);
-        n = run_line(&input[at..behind], &mut out, n);
+    while at < text.len() {
+        let behind = next_line(text, at);
+        m = run_line(&text[at..behind], out, m);
         at = behind;
     }
-    flush(&out, n);
+    m
 }
 
-// Reads standard input and answers its lines.
+// Reads standard input part by part and answers its lines. A proved loop has to end, and nothing says that the input does: its turns are
+// counted down from a number that no run uses up.
 fn run_input(room: &mut [u8; INPUT]) {
-    let n = read_lines(room);
-    let input: &[u8] = room;
-    run_lines(&input[..n]);
+    let mut out = [0u8; 65536];
+    let mut n: usize = 0;
+    let mut input = unread();
+    let mut turns = u64::MAX;
+    while 0 < turns && !input.ended {
+        input = read_on(room, input);
+        let lines = input.lines;
+        let text: &[u8] = room;
+        n = run_lines(&text[..lines], &mut out, n);
+        turns -= 1;
+    }
+    flush(&out, n);
 }
 
 // Lends the array for standard input.

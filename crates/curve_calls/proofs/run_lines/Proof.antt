@@ -6,10 +6,10 @@ use Rattle.curve_calls.proofs.run_lines.Statement.{statement}
 use Rattle.curve_calls.proofs.run_lines.Tie as tie
 
 abbrev Inv-loop : tie.InvT-loop
-Inv-loop text out₀ n₀ at₀ out n at = Unit {0}
+Inv-loop text out₀ n m₀ at₀ out m at = Unit {0}
 
 abbrev μ-loop : tie.MeasureT-loop
-μ-loop text out₀ n₀ at₀ out n at = length text - at
+μ-loop text out₀ n m₀ at₀ out m at = length text - at
 
 loop-holds : tie.Need-loop-holds Inv-loop μ-loop
 loop-holds c = search needs
@@ -26,9 +26,6 @@ loop-less c = let b = c .next-line .ensures (c .before .before .before .loop-tes
 loop-again : tie.Need-loop-again Inv-loop μ-loop
 loop-again c = search needs
 
-flush-requires : tie.Need-flush-requires Inv-loop μ-loop
-flush-requires c κs = search needs
-
 returns : tie.Need-returns Inv-loop μ-loop
 returns c = search needs
 
@@ -43,5 +40,4 @@ run-lines-spec =
     next-line-requires
     loop-less
     loop-again
-    flush-requires
     returns)

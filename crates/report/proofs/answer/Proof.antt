@@ -1,6 +1,8 @@
--- `report::answer` keeps to its array: a report that is counted fits.
+-- `report::answer` lends room for every report, so that the call is not refused, and keeps to its array.
 use mathlib.Core.Path.{sym}
+use native.Mathlib.Omega.{arith}
 use lib.Seq.{length-take-le}
+use Rattle.reporting.proofs.Lengths.{report-not-refused}
 use Rattle.reporting.proofs.Reported.{count-fits}
 use borrow.Author.Needs.{needs}
 use Rattle.report.proofs.answer.Statement.{statement}
@@ -12,26 +14,21 @@ slice-aggregate-report c = search needs
 report-requires : tie.Need-report-requires
 report-requires c κs = search needs
 
-enum-known-reported : tie.Need-enum-known-reported
-enum-known-reported c = search needs
-
-enum-told : tie.Need-enum-told
-enum-told c = search needs
-
-returns : tie.Need-returns
-returns c = search needs
+count-of-requires : tie.Need-count-of-requires
+count-of-requires c κs = report-not-refused _ _ (omega arith) (c .before .report .ensures)
 
 array-share-prefix-out : tie.Need-array-share-prefix-out
-array-share-prefix-out c = count-fits _ _ (rw (c .before .reported .given .1) at (c .before .before .before .before .report .ensures))
+array-share-prefix-out c = count-fits _ _ (rw (c .count-of .ensures) at (c .before .before .report .ensures))
 
 slice-aggregate-write-all : tie.Need-slice-aggregate-write-all
-slice-aggregate-write-all c = sym (length-take-le _ _ (count-fits _ _ (rw (c .before .before .reported .given .1) at (c .before .before .before .before .before .report .ensures))))
+slice-aggregate-write-all c =
+    sym (length-take-le _ _ (count-fits _ _ (rw (c .before .count-of .ensures) at (c .before .before .before .report .ensures))))
 
 write-all-requires : tie.Need-write-all-requires
 write-all-requires c κs = search needs
 
-returns-2 : tie.Need-returns-2
-returns-2 c = search needs
+returns : tie.Need-returns
+returns c = search needs
 
 pub answer-spec : {M : Type 1} → statement M
 answer-spec =
@@ -39,10 +36,8 @@ answer-spec =
     (tie.spec
     slice-aggregate-report
     report-requires
-    enum-known-reported
-    enum-told
-    returns
+    count-of-requires
     array-share-prefix-out
     slice-aggregate-write-all
     write-all-requires
-    returns-2)
+    returns)

@@ -1,4 +1,4 @@
--- `text_calls::run_lines` meets its contract. The loop's invariant: the place is in the input or at its end. Each turn goes on behind its line. Assumes nothing.
+-- `text_calls::run_lines` meets its contract. The loop's invariant: the place is in the text or at its end. Each turn goes on behind its line. Assumes nothing.
 use Prim.Native.Nat.{_-_, _≤_, _<_}
 use lib.ListN.{length}
 use borrow.Author.Needs.{needs}
@@ -6,13 +6,13 @@ use Rattle.text_calls.proofs.run_lines.Statement.{statement}
 use Rattle.text_calls.proofs.run_lines.Tie as tie
 
 abbrev Inv-loop : tie.InvT-loop
-Inv-loop input out₀ n₀ at₀ out n at = at ≤ length input
+Inv-loop text out₀ n m₀ at₀ out m at = at ≤ length text
 
 abbrev μ-loop : tie.MeasureT-loop
-μ-loop input out₀ n₀ at₀ out n at = length input - at
+μ-loop text out₀ n m₀ at₀ out m at = length text - at
 
 -- where the line of a turn ends
-line-end : (c : tie.After-next-line Inv-loop μ-loop) → (c .before .before .loop .at < c .next-line .result) × (c .next-line .result ≤ length (c .before .before .before .before .args .input .now))
+line-end : (c : tie.After-next-line Inv-loop μ-loop) → (c .before .before .loop .at < c .next-line .result) × (c .next-line .result ≤ length (c .before .before .before .before .args .text .now))
 line-end c = c .next-line .ensures (c .before .loop-test .taken)
 
 loop-holds : tie.Need-loop-holds Inv-loop μ-loop
@@ -39,9 +39,6 @@ loop-less c = let b = line-end (c .before .before .before) in search (needs, b .
 loop-again : tie.Need-loop-again Inv-loop μ-loop
 loop-again c = search (needs, line-end (c .before .before .before) .1)
 
-flush-requires : tie.Need-flush-requires Inv-loop μ-loop
-flush-requires c κs = search needs
-
 returns : tie.Need-returns Inv-loop μ-loop
 returns c = search needs
 
@@ -59,5 +56,4 @@ run-lines-spec =
     run-line-requires
     loop-less
     loop-again
-    flush-requires
     returns)

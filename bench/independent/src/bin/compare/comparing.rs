@@ -6,7 +6,7 @@ use std::io;
 use std::sync::atomic::{AtomicUsize, Ordering};
 use std::sync::Mutex;
 
-/// A program reads at most 1,048,576 bytes a run.
+/// A batch gets no more calls once it has so many bytes.
 const MOST_INPUT: usize = 900_000;
 /// Grounds of refusal are numbered up to 13; 0 stands for accepted calls.
 pub const GROUNDS: usize = 14;
@@ -99,7 +99,7 @@ impl<C: Call> Work<'_, C> {
         }
     }
 
-    /// Compares the calls of one piece, in batches that the program can read.
+    /// Compares the calls of one piece, in batches.
     fn piece(&self, calls: &[C]) -> io::Result<()> {
         let mut rest = calls;
         while !rest.is_empty() && !self.is_over() {
@@ -182,7 +182,7 @@ impl<C: Call> Work<'_, C> {
     }
 }
 
-/// The batch of the first of these calls, as many as the program can read.
+/// The batch of the first of these calls.
 fn batch_of<C: Call>(calls: &[C]) -> Batch {
     let mut batch = Batch { input: Vec::new(), expected: Vec::new(), ends: Vec::new(), grounds: Vec::new() };
     for call in calls {

@@ -12,6 +12,7 @@ mod curve_call;
 mod curve_inputs;
 mod damage;
 mod dice;
+mod long_input;
 mod options;
 mod programs;
 mod table_families;
@@ -79,7 +80,21 @@ fn run_program<C: Call>(options: &Options, makers: &[Maker<C>], before: usize) -
     for (index, difference) in outcome.found.iter().enumerate() {
         show_difference(options, before + index + 1, difference)?;
     }
-    Ok(outcome.found.len())
+    match outcome.found.len() {
+        0 => run_long(options, makers),
+        found => Ok(found),
+    }
+}
+
+/// Compares one long input, and gives the number of differences: 0 or 1.
+fn run_long<C: Call>(options: &Options, makers: &[Maker<C>]) -> Result<usize, String> {
+    let long = long_input::run(&options.programs, makers).map_err(|trouble| format!("{}: {trouble}", C::PROGRAM))?;
+    println!("  one input of {} bytes with a line that is too long: {} bytes printed", long.input.len(), long.printed.len());
+    let Some(same) = long.difference() else { return Ok(0) };
+    println!("difference: {}, the long input, behind {same} bytes that are as expected", C::PROGRAM);
+    show("expected", &long.expected[same..]);
+    show("printed by the program", &long.printed[same..]);
+    Ok(1)
 }
 
 /// For each kind of call how many were accepted and how many were refused on each ground.

@@ -1,5 +1,7 @@
 -- `handing::answered::hand_analysis` meets its contract: where there is no refusal, the answers are handed out.
 use mathlib.Core.Path.{_≡_, refl}
+use native.Mathlib.Omega.{arith}
+use lib.ListN.{length}
 use borrow.Author.Needs.{needs}
 use Rattle.table.proofs.Entries.{length-mapped}
 use Rattle.handing.proofs.Given.{given-old}
@@ -22,11 +24,22 @@ returns c =
       given-old _ _ _ old,
     )
 
+-- there is a place for each answer
+server-places : (c : tie.Start) → length (c .args .analysis .servers) ≡ 16
+server-places c = search (needs, length-mapped)
+
+task-places : (c : tie.Start) → length (c .args .analysis .tasks) ≡ 64
+task-places c = search (needs, length-mapped)
+
 list-servers-requires : tie.Need-list-servers-requires
-list-servers-requires c κs = search (needs, length-mapped)
+list-servers-requires c κs =
+    let start = c .before .before .before .before .before .before .before in
+    (server-places start, omega (arith, start .pre .0), search needs, search needs)
 
 list-tasks-requires : tie.Need-list-tasks-requires
-list-tasks-requires c κs = search (needs, length-mapped)
+list-tasks-requires c κs =
+    let start = c .before .before .before .before .before .before .before .before .before .before .before .before in
+    (task-places start, omega (arith, start .pre .1), search needs, search needs, search needs, search needs)
 
 returns-2 : tie.Need-returns-2
 returns-2 c = search needs

@@ -1,8 +1,8 @@
--- `handing::tables::step_table` meets its contract: a step that is not refused is written back field by field.
+-- `handing::tables::step_table` meets its contract: a step that is not refused is written back field by field; holder and runner always are.
 use mathlib.Core.Path.{sym, ap, _∙_}
 use borrow.Author.Needs.{needs}
 use Rattle.machine.specs.declared.Stepped.{Stepped}
-use Rattle.handing.proofs.Given.{given-old, refused-stays}
+use Rattle.handing.proofs.Given.{refused-stays}
 use Rattle.handing.proofs.tables.step_table.Statement.{statement}
 use Rattle.handing.proofs.tables.step_table.Tie as tie
 
@@ -16,8 +16,8 @@ returns c =
       number,
       ap (λ (s : Stepped). s .refusal .line) e,
       refused-stays _ _ (λ z. c .if1 .taken (number ∙ z)),
-      given-old _ _ _ (c .if1 .taken),
-      given-old _ _ _ (c .if1 .taken),
+      ap (λ (s : Stepped). s .holder) e,
+      ap (λ (s : Stepped). s .runner) e,
     )
 
 returns-2 : tie.Need-returns-2
