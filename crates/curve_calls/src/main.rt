@@ -6,9 +6,6 @@
 // The answer is `count n`, `counts l s r`, `at t`, `not provided`, or `refused number line`; behind it stands ` |` and the numbers of each lent
 // buffer. A line of any other form is answered by `bad`, and so is one of more than 1,048,576 bytes, its line feed counted. The input may have any
 // length, and its last line needs no line feed.
-mod printing;
-mod reading;
-
 use batch::INPUT;
 use batch::ends;
 use batch::flush;
@@ -18,13 +15,13 @@ use batch::next_line;
 use batch::numbers::next_number;
 use batch::numbers::read_number;
 use batch::put_bad;
-use printing::put_fitted;
-use printing::put_provided;
-use printing::put_written;
-use reading::Curve;
-use reading::lend;
-use reading::read_curve;
-use reading::read_size;
+use curve_lines::printing::put_fitted;
+use curve_lines::printing::put_provided;
+use curve_lines::printing::put_written;
+use curve_lines::reading::Curve;
+use curve_lines::reading::lend;
+use curve_lines::reading::read_curve;
+use curve_lines::reading::read_size;
 ghost use Prim.Native.Nat.{_≤_};
 ghost use Rattle.io.specs.Counts.{Counts};
 

@@ -1,8 +1,8 @@
--- `curve_calls::printing::put_lent` meets its contract. Assumes nothing.
+-- `curve_lines::printing::put_lent` meets its contract. Assumes nothing.
 use Prim.Native.Nat.{_-_}
 use borrow.Author.Needs.{needs}
-use Rattle.curve_calls.proofs.printing.put_lent.Statement.{statement}
-use Rattle.curve_calls.proofs.printing.put_lent.Tie as tie
+use Rattle.curve_lines.proofs.printing.put_lent.Statement.{statement}
+use Rattle.curve_lines.proofs.printing.put_lent.Tie as tie
 
 abbrev Inv-loop : tie.InvT-loop
 Inv-loop out₀ n lent room m₀ i₀ out m i = Unit {0}

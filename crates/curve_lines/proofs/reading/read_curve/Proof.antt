@@ -1,27 +1,27 @@
--- `curve_calls::reading::lend` meets its contract. The loop's invariant: the array keeps its length. Assumes nothing.
+-- `curve_lines::reading::read_curve` meets its contract. The loop's invariant: the array keeps its length. Assumes nothing.
 use Prim.Native.Nat.{_-_}
 use mathlib.Core.Path.{_≡_, sym}
 use native.Mathlib.Omega.{arith}
 use lib.ListN.{length}
 use lib.Seq.{length-take-le}
 use borrow.Author.Needs.{needs}
-use Rattle.curve_calls.proofs.reading.lend.Statement.{statement}
-use Rattle.curve_calls.proofs.reading.lend.Tie as tie
+use Rattle.curve_lines.proofs.reading.read_curve.Statement.{statement}
+use Rattle.curve_lines.proofs.reading.read_curve.Tie as tie
 
 abbrev Inv-loop : tie.InvT-loop
-Inv-loop room numbers₀ i₀ numbers i = length numbers ≡ 4096
+Inv-loop text at count behind₀ numbers₀ i₀ behind numbers i = length numbers ≡ 4096
 
 abbrev μ-loop : tie.MeasureT-loop
-μ-loop room numbers₀ i₀ numbers i = room - i
+μ-loop text at count behind₀ numbers₀ i₀ behind numbers i = count - i
+
+read-size-requires : tie.Need-read-size-requires Inv-loop μ-loop
+read-size-requires c κs = search needs
 
 loop-holds : tie.Need-loop-holds Inv-loop μ-loop
 loop-holds c = search needs
 
-cast-numbers : tie.Need-cast-numbers Inv-loop μ-loop
-cast-numbers c = search needs
-
-add-numbers : tie.Need-add-numbers Inv-loop μ-loop
-add-numbers c = search needs
+next-number-requires : tie.Need-next-number-requires Inv-loop μ-loop
+next-number-requires c κs = search needs
 
 mul-numbers : tie.Need-mul-numbers Inv-loop μ-loop
 mul-numbers c = search needs
@@ -41,15 +41,15 @@ loop-again c = search needs
 returns : tie.Need-returns Inv-loop μ-loop
 returns c = (omega arith, sym (length-take-le _ _ (omega arith)))
 
-pub lend-spec : {M : Type 1} → statement M
-lend-spec =
+pub read-curve-spec : {M : Type 1} → statement M
+read-curve-spec =
     tie.close
     (tie.spec
     Inv-loop
     μ-loop
+    read-size-requires
     loop-holds
-    cast-numbers
-    add-numbers
+    next-number-requires
     mul-numbers
     array-write-numbers
     add-i
