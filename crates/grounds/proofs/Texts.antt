@@ -83,23 +83,23 @@ come (l ∷ ls) t n = go (said t n l) refl (come ls (withLine t (said t n l)) (n
     go (Wrong x place) e c = first (here (refused-ground n (t .«servers_n») (t .«tasks_n») l x place e))
 
 -- a text has a ground, or is accepted
-pub data Judged (text : List ℕ) : Type 0 where
-  refused : {x : Ground} {k place : ℕ} → TextGround text x k place → Judged text
-  unrefused : readingOf text .answer ≡ Accepted → Judged text
+pub data TextJudged (text : List ℕ) : Type 0 where
+  refused : {x : Ground} {k place : ℕ} → TextGround text x k place → TextJudged text
+  unrefused : readingOf text .answer ≡ Accepted → TextJudged text
 
-ended-judged : (text : List ℕ) (u : Table) (m : ℕ) → Whole text → AllRight (linesOf text) noTable 1 u m → Judged text
+ended-judged : (text : List ℕ) (u : Table) (m : ℕ) → Whole text → AllRight (linesOf text) noTable 1 u m → TextJudged text
 ended-judged text u m w r = go (both u) refl (eqb (u .span) 0) refl (spanOf (periodsOf (serversOf u) (tasksOf u))) refl
   where
-    go : (b : Bool) → both u ≡ b → (e : Bool) → eqb (u .span) 0 ≡ e → (s : Span) → spanOf (periodsOf (serversOf u) (tasksOf u)) ≡ s → Judged text
+    go : (b : Bool) → both u ≡ b → (e : Bool) → eqb (u .span) 0 ≡ e → (s : Span) → spanOf (periodsOf (serversOf u) (tasksOf u)) ≡ s → TextJudged text
     go false p e q s o = refused (missing w r p)
     go true p true q Over o = refused (over w r p (eqb-true (u .span) 0 q) o)
     go true p true q (Ticks h) o = unrefused (ap (λ (x : Reading). x .answer) (whole-reads text w r) ∙ rw (p, q, o))
     go true p false q s o = unrefused (ap (λ (x : Reading). x .answer) (whole-reads text w r) ∙ rw (p, q))
 
-pub text-judged : (text : List ℕ) → Judged text
+pub text-judged : (text : List ℕ) → TextJudged text
 text-judged text = go (leb (length text) 4096) refl (endsWithFeed text) refl (come (linesOf text) noTable 1)
   where
-    go : (a : Bool) → leb (length text) 4096 ≡ a → (b : Bool) → endsWithFeed text ≡ b → Come (linesOf text) noTable 1 → Judged text
+    go : (a : Bool) → leb (length text) 4096 ≡ a → (b : Bool) → endsWithFeed text ≡ b → Come (linesOf text) noTable 1 → TextJudged text
     go false p b q c = refused (long (leb-false (length text) 4096 p))
     go true p false q c = refused (unended (leb-true (length text) 4096 p) q)
     go true p true q (first f) = refused (inLine (record { short = leb-true (length text) 4096 p; ended = q }) f)
@@ -119,7 +119,7 @@ pub record Grounded (text : List ℕ) (r : Refusal) : Type 0 where
 pub refused-text : (text : List ℕ) (r : Refusal) → readingOf text .answer ≡ Refused r → Grounded text r
 refused-text text r e = go (text-judged text)
   where
-    go : Judged text → Grounded text r
+    go : TextJudged text → Grounded text r
     go (unrefused a) = let z : Accepted ≡ Refused r = sym a ∙ e in absurd (true≢false cc)
     go (refused {x = x} {k = k} {place = place} g) =
         let z : refusedAt x k place ≡ r = ap (λ (y : Answer). refused-as y r) (sym (ap (λ (y : Reading). y .answer) (text-refused text g)) ∙ e) in
@@ -132,7 +132,7 @@ accepted-none text a x k place g = let z : Accepted ≡ Refused (refusedAt x k p
 pub none-accepted : (text : List ℕ) → ((x : Ground) (k place : ℕ) → TextGround text x k place → ⊥) → readingOf text .answer ≡ Accepted
 none-accepted text h = go (text-judged text)
   where
-    go : Judged text → readingOf text .answer ≡ Accepted
+    go : TextJudged text → readingOf text .answer ≡ Accepted
     go (unrefused a) = a
     go (refused {x = x} {k = k} {place = place} g) = absurd (h x k place g)
 
