@@ -22,17 +22,17 @@ use Rattle.reading.specs.Examples.{textA, textB, textC, textFree, readA,
 -- ---- lines of which it is known what they say
 
 -- line by line, behind a table and from line n on
-abbrev Says : List Line → List (List ℕ) → Table → ℕ → Type 0
-Says [] [] t n = Unit {0}
-Says [] (l ∷ ls) t n = ⊥
-Says (x ∷ xs) [] t n = ⊥
-Says (x ∷ xs) (l ∷ ls) t n = (lineOf n (t .«servers_n») (t .«tasks_n») l ≡ x) × Says xs ls (withLine t x) (n + 1)
+abbrev LinesSay : List Line → List (List ℕ) → Table → ℕ → Type 0
+LinesSay [] [] t n = Unit {0}
+LinesSay [] (l ∷ ls) t n = ⊥
+LinesSay (x ∷ xs) [] t n = ⊥
+LinesSay (x ∷ xs) (l ∷ ls) t n = (lineOf n (t .«servers_n») (t .«tasks_n») l ≡ x) × LinesSay xs ls (withLine t x) (n + 1)
 
 abbrev readSaid : List Line → Table → ℕ → Reading
 readSaid [] t n = endedOf t n
 readSaid (x ∷ xs) t n = afterLine x t n (λ u. readSaid xs u (n + 1))
 
-said-reads : (xs : List Line) (ls : List (List ℕ)) (t : Table) (n : ℕ) → Says xs ls t n → readLines ls t n ≡ readSaid xs t n
+said-reads : (xs : List Line) (ls : List (List ℕ)) (t : Table) (n : ℕ) → LinesSay xs ls t n → readLines ls t n ≡ readSaid xs t n
 unfolding readLines
 said-reads [] [] t n h = refl
 said-reads [] (l ∷ ls) t n h = absurd h
@@ -57,7 +57,7 @@ a-task s w r d = TaskIs (record { server = s; work = w; release = r; deadline = 
 abbrev saidA : List Line
 saidA = SpanIs 0 ∷ a-server Deferrable 3 10 ∷ a-server Deferrable 2 4 ∷ a-task 1 1 (Every 0 4) 4 ∷ a-task 2 1 (Every 0 5) 5 ∷ a-task 2 2 (Every 0 8) 8 ∷ []
 
-says-a : Says saidA (allButLast (pieces 10 textA)) noTable 1
+says-a : LinesSay saidA (allButLast (pieces 10 textA)) noTable 1
 unfolding all allButLast sameBytes digitsFrom
 says-a =
     (rw split-is (rw split-is refl), (rw split-is (rw split-is refl), (rw split-is (rw split-is refl), (rw split-is (rw split-is refl), (rw split-is (rw split-is refl), (rw split-is (rw split-is refl), tt))))))
@@ -69,7 +69,7 @@ read-a = ap (λ ls. readLines ls noTable 1) (lines-are textA) ∙ said-reads sai
 abbrev saidB : List Line
 saidB = SpanIs 8 ∷ a-server Deferrable 2 5 ∷ a-server Deferrable 2 4 ∷ a-task 1 4 (Once 3) 5 ∷ a-task 2 1 (Every 0 4) 4 ∷ []
 
-says-b : Says saidB (allButLast (pieces 10 textB)) noTable 1
+says-b : LinesSay saidB (allButLast (pieces 10 textB)) noTable 1
 unfolding all allButLast sameBytes digitsFrom
 says-b =
     (rw split-is (rw split-is refl), (rw split-is (rw split-is refl), (rw split-is (rw split-is refl), (rw split-is (rw split-is refl), (rw split-is (rw split-is refl), tt)))))
@@ -81,7 +81,7 @@ read-b = ap (λ ls. readLines ls noTable 1) (lines-are textB) ∙ said-reads sai
 abbrev saidC : List Line
 saidC = SpanIs 8 ∷ a-server Periodic 2 6 ∷ a-server Deferrable 1 3 ∷ a-task 1 1 (Once 3) 5 ∷ a-task 2 1 (Once 0) 2 ∷ []
 
-says-c : Says saidC (allButLast (pieces 10 textC)) noTable 1
+says-c : LinesSay saidC (allButLast (pieces 10 textC)) noTable 1
 unfolding all allButLast sameBytes digitsFrom
 says-c =
     (rw split-is (rw split-is refl), (rw split-is (rw split-is refl), (rw split-is (rw split-is refl), (rw split-is (rw split-is refl), (rw split-is (rw split-is refl), tt)))))
@@ -93,7 +93,7 @@ read-c = ap (λ ls. readLines ls noTable 1) (lines-are textC) ∙ said-reads sai
 abbrev saidFree : List Line
 saidFree = SpanIs 8 ∷ a-server Deferrable 2 4 ∷ a-server Periodic 1 4 ∷ a-task 1 5 (Every 0 4) 9 ∷ []
 
-says-free : Says saidFree (allButLast (pieces 10 textFree)) noTable 1
+says-free : LinesSay saidFree (allButLast (pieces 10 textFree)) noTable 1
 unfolding all allButLast sameBytes digitsFrom
 says-free = (rw split-is (rw split-is refl), (rw split-is (rw split-is refl), (rw split-is (rw split-is refl), (rw split-is (rw split-is refl), tt))))
 
