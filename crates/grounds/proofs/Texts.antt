@@ -1,12 +1,12 @@
 -- A text is refused on the ground that it has and on no other, with that ground's number, line and place. Assumes nothing.
-use Prim.Native.Nat.{ℕ, _+_}
+use Prim.Native.Nat.{ℕ, _+_, _<_}
 use mathlib.Core.Path.{_≡_, refl, sym, ap, subst, _∙_}
 use mathlib.Core.List.{List, [], _∷_}
 use mathlib.Core.Bool.{Bool, true, false, true≢false}
+use native.Mathlib.Omega.{arith}
 use lib.ListN.{length}
 use lib.Dec.{leb, eqb}
-use borrow.Author.Tests.{leb-true, leb-false, eqb-true, eq-eqb}
-use Rattle.basics.specs.Choice.{pick}
+use borrow.Author.Tests.{leb-true, leb-false, eqb-true}
 use Rattle.table.specs.Rules.{serversOf, tasksOf}
 use Rattle.table.specs.Span.{periodsOf, spanOf}
 use Rattle.table.specs.declared.Table.{Table}
@@ -19,15 +19,15 @@ use Rattle.refusals.specs.Refusals.{numberOf, refusedAt}
 use Rattle.refusals.specs.declared.Ground.{Ground}
 use Rattle.refusals.specs.declared.Ground.the-variants as ground
 use Rattle.refusals.specs.declared.Refusal.{Refusal}
-use Rattle.reading.specs.Reading.{noTable, refusal, accepted, resolved, endedOf, readLines, endsWithFeed, readingOf}
+use Rattle.reading.specs.Reading.{noTable, refusal, accepted, endedOf, readLines, endsWithFeed, readingOf}
 use Rattle.reading.specs.Pieces.{withLine, goesOn}
 use Rattle.reading.specs.declared.Answer.{Answer}
 use Rattle.reading.specs.declared.Answer.the-variants.{Accepted, Refused}
 use Rattle.reading.specs.declared.Reading.{Reading}
 use Rattle.reading.proofs.Rows.{after-right}
 use Rattle.reading.proofs.Accepted.{too-long, not-ended, by-lines}
-use Rattle.grounds.specs.Texts.{said, GroundBehind, RightBehind, FirstGround, here, later, AllRight, end, next, both, Whole, TextGround, long, unended, inLine, missing, over}
-use Rattle.grounds.proofs.Grounds.{refused-ground, ground-refuses, said-none, none-said}
+use Rattle.grounds.specs.Texts.{said, RightBehind, FirstGround, here, later, AllRight, end, next, both, Whole, TextGround, long, unended, inLine, missing, over}
+use Rattle.grounds.proofs.Grounds.{refused-ground, ground-refuses, said-none, none-said, ground-once}
 
 -- ---- from the ground to the refusal
 
@@ -136,7 +136,63 @@ none-accepted text h = go (text-judged text)
     go (unrefused a) = a
     go (refused {x = x} {k = k} {place = place} g) = absurd (h x k place g)
 
+-- ---- a text has one ground
+
+-- of lines behind a table one is the first with a ground, and it has that ground only
+first-once : (ls : List (List ℕ)) (t : Table) (n : ℕ) {x y : Ground} {k l p q : ℕ} → FirstGround ls t n x k p → FirstGround ls t n y l q → x ≡ y
+first-once (l ∷ ls) t n (here g) (here h) = ground-once n (t .«servers_n») (t .«tasks_n») l _ _ _ _ g h .0
+first-once (l ∷ ls) t n (here {place = p} {x = x} g) (later r f) = absurd (r x p g)
+first-once (l ∷ ls) t n (later r f) (here {place = q} {x = y} h) = absurd (r y q h)
+first-once (l ∷ ls) t n (later r f) (later s g) = first-once ls (withLine t (said t n l)) (n + 1) f g
+
+first-not-right : (ls : List (List ℕ)) (t : Table) (n : ℕ) {x : Ground} {k p : ℕ} {u : Table} {m : ℕ} → FirstGround ls t n x k p → AllRight ls t n u m → ⊥
+first-not-right (l ∷ ls) t n (here {place = p} {x = x} g) (next r a) = r x p g
+first-not-right (l ∷ ls) t n (later s f) (next r a) = first-not-right ls (withLine t (said t n l)) (n + 1) f a
+
+right-once : (ls : List (List ℕ)) (t : Table) (n : ℕ) {u v : Table} {m k : ℕ} → AllRight ls t n u m → AllRight ls t n v k → u ≡ v
+right-once [] t n end end = refl
+right-once (l ∷ ls) t n (next r a) (next s b) = right-once ls (withLine t (said t n l)) (n + 1) a b
+
 -- two grounds of a text have the same number, line and place
 pub text-ground-once : (text : List ℕ) {x y : Ground} {k l p q : ℕ} → TextGround text x k p → TextGround text y l q → refusedAt x k p ≡ refusedAt y l q
 text-ground-once text {x} {y} {k} {l} {p} {q} g h =
     ap (λ (r : Reading). refused-as (r .answer) (refusedAt x k p)) (sym (text-refused text g) ∙ text-refused text h)
+
+-- and they are the same ground
+module _ (text : List ℕ) where
+  not-long : {A : Type 0} → 4096 < length text → Whole text → A
+  not-long h w = absurd (omega (arith, w .short))
+
+  not-unended : {A : Type 0} → endsWithFeed text ≡ false → Whole text → A
+  not-unended e w = absurd (true≢false (sym (w .ended) ∙ e))
+
+  not-both : {A : Type 0} {u v : Table} {m n : ℕ} → AllRight (linesOf text) noTable 1 u m → AllRight (linesOf text) noTable 1 v n → both u ≡ false
+      → both v ≡ true → A
+  not-both r s e f = absurd (true≢false (sym f ∙ (sym (ap both (right-once (linesOf text) noTable 1 r s)) ∙ e)))
+
+  pub text-ground-same : {x y : Ground} {k l p q : ℕ} → TextGround text x k p → TextGround text y l q → x ≡ y
+  text-ground-same (long h) (long g) = refl
+  text-ground-same (long h) (unended g e) = absurd (omega arith)
+  text-ground-same (long h) (inLine w f) = not-long h w
+  text-ground-same (long h) (missing w r e) = not-long h w
+  text-ground-same (long h) (over w r e z o) = not-long h w
+  text-ground-same (unended h e) (long g) = absurd (omega arith)
+  text-ground-same (unended h e) (unended g f) = refl
+  text-ground-same (unended h e) (inLine w f) = not-unended e w
+  text-ground-same (unended h e) (missing w r f) = not-unended e w
+  text-ground-same (unended h e) (over w r f z o) = not-unended e w
+  text-ground-same (inLine w f) (long g) = not-long g w
+  text-ground-same (inLine w f) (unended g e) = not-unended e w
+  text-ground-same (inLine w f) (inLine v g) = first-once (linesOf text) noTable 1 f g
+  text-ground-same (inLine w f) (missing v r e) = absurd (first-not-right (linesOf text) noTable 1 f r)
+  text-ground-same (inLine w f) (over v r e z o) = absurd (first-not-right (linesOf text) noTable 1 f r)
+  text-ground-same (missing w r e) (long g) = not-long g w
+  text-ground-same (missing w r e) (unended g f) = not-unended f w
+  text-ground-same (missing w r e) (inLine v f) = absurd (first-not-right (linesOf text) noTable 1 f r)
+  text-ground-same (missing w r e) (missing v s f) = refl
+  text-ground-same (missing w r e) (over v s f z o) = not-both r s e f
+  text-ground-same (over w r e z o) (long g) = not-long g w
+  text-ground-same (over w r e z o) (unended g f) = not-unended f w
+  text-ground-same (over w r e z o) (inLine v f) = absurd (first-not-right (linesOf text) noTable 1 f r)
+  text-ground-same (over w r e z o) (missing v s f) = not-both s r f e
+  text-ground-same (over w r e z o) (over v s f y i) = refl

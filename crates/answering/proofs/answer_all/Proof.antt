@@ -24,15 +24,22 @@ Inv-loop tick free₀ sum₀ part₀ held₀ running₀ spare₀ table servers�
 abbrev μ-loop : tie.MeasureT-loop
 μ-loop tick free₀ sum₀ part₀ held₀ running₀ spare₀ table servers₀ tasks₀ count span n₀ i₀ free sum part held running spare servers tasks n i = count - i
 
--- places further back: the start from the loop, the turn from behind the server's held ticks, these from behind the test of the tick
+-- places further back: the start from in front of the first free curve and from the loop, the turn from behind the server's held ticks, these from in
+-- front of the test of the tick and from behind it
+abbrev begun : tie.After-put-arg Inv-loop μ-loop → tie.Start Inv-loop μ-loop
+begun c = c .before .before .before .before .before .before .before .before .before .before
+
 abbrev start : tie.At-loop Inv-loop μ-loop → tie.Start Inv-loop μ-loop
-start c = c .before .before .before .before .before .before .before .before .before .before .before .before .before .before
+start c = begun (c .before .before .before .before)
 
 abbrev turn : tie.After-hold-server Inv-loop μ-loop → tie.In-loop Inv-loop μ-loop
 turn c = c .before .before .before .before .before .before .before .before .before
 
+abbrev behind-held : tie.After-slice-known12 Inv-loop μ-loop → tie.After-hold-server Inv-loop μ-loop
+behind-held c = c .before .before .before .before .before .before .before .before .before .before
+
 abbrev holding : tie.After-covers Inv-loop μ-loop → tie.After-hold-server Inv-loop μ-loop
-holding c = c .before .before .before .before .before .before .before .before .before .before .before .before
+holding c = behind-held (c .before .before)
 
 abbrev covering : tie.After-answer-tasks Inv-loop μ-loop → tie.After-covers Inv-loop μ-loop
 covering c = c .before .before .before .before .before
@@ -58,7 +65,7 @@ no-notes-requires c κs = search needs
 
 put-requires : tie.Need-put-requires Inv-loop μ-loop
 put-requires c κs =
-    let s = c .before .before .before .before .before .before .before .before .before .before in
+    let s = begun c in
     (empty-curve (s .args .free .now) (s .pre .1), span-some (s .args .t1) (s .pre .0), span-most (s .args .t1) (s .pre .0))
 
 loop-holds : tie.Need-loop-holds Inv-loop μ-loop
@@ -113,10 +120,10 @@ held-so c =
     freed-held (table k) (ok k) _ (k .loop .free) (k .loop .n) (k .loop .i) (k .loop .inv .0 .freed) (c .hold-server .ensures .0)
 
 slice-reshare-prefix-covers : tie.Need-slice-reshare-prefix-covers Inv-loop μ-loop
-slice-reshare-prefix-covers c = c .before .before .before .before .before .before .before .before .before .before .hold-server .ensures .0 .count
+slice-reshare-prefix-covers c = behind-held c .hold-server .ensures .0 .count
 
 slice-aggregate-covers : tie.Need-slice-aggregate-covers Inv-loop μ-loop
-slice-aggregate-covers c = sym (length-take-le _ _ (c .before .before .before .before .before .before .before .before .before .before .before .hold-server .ensures .0 .count))
+slice-aggregate-covers c = sym (length-take-le _ _ (behind-held (c .before) .hold-server .ensures .0 .count))
 
 covers-requires : tie.Need-covers-requires Inv-loop μ-loop
 covers-requires c κs = search needs
