@@ -5,8 +5,8 @@ use batch::put_number;
 use batch::put_word;
 use curves::Fitted;
 use curves::Provided;
-use curves::Written;
 use refusals::Refusal;
+use refusals::Written;
 ghost use Prim.Native.Nat.{_≤_};
 
 // Puts a space and a number of a curve or of a refusal.

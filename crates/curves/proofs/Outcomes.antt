@@ -3,30 +3,18 @@ use Prim.Native.Nat.{ℕ}
 use mathlib.Core.Path.{_≡_, refl, sym, ap, _∙_}
 use mathlib.Core.List.{List}
 use mathlib.Core.Bool.{Bool}
-use Rattle.windows.specs.Windows.{isPlain, Instant, at, notProvided}
+use Rattle.windows.specs.Windows.{isPlain, addUp, cutAt, Instant, at, notProvided}
 use Rattle.refusals.specs.Outcomes.{Outcome, refused, answer}
-use Rattle.curves.specs.Refusals.{writtenOf, providedOf, fittedOf, Lengths}
+use Rattle.refusals.proofs.Outcomes.{leaves-once}
+use Rattle.curves.specs.Refusals.{addOutcome, cutOutcome, providedOf, fittedOf, Lengths}
 use Rattle.curves.specs.Calls.{Adds, Cuts, Fits, Provides}
-use Rattle.curves.specs.declared.Written.{Written}
-use Rattle.curves.specs.declared.Written.the-variants as written
+use Rattle.refusals.specs.declared.Written.{Written}
 use Rattle.curves.specs.declared.Provided.{Provided}
 use Rattle.curves.specs.declared.Provided.the-variants as provided
 use Rattle.curves.specs.declared.Fitted.{Fitted}
 use Rattle.curves.specs.declared.Fitted.the-variants as fitted
 
 -- ---- an answer can be told from its outcome
-
-writtenBack : Outcome ℕ → Written
-writtenBack (answer n) = written.Count n
-writtenBack (refused refusal) = written.Refused refusal
-
-written-back : (r : Written) → writtenBack (writtenOf r) ≡ r
-unfolding writtenBack
-written-back (written.Count n) = refl
-written-back (written.Refused refusal) = refl
-
-pub written-once : (r q : Written) → writtenOf r ≡ writtenOf q → r ≡ q
-written-once r q e = sym (written-back r) ∙ ap writtenBack e ∙ written-back q
 
 providedBack : Outcome Instant → Provided
 providedBack (answer (at t)) = provided.At t
@@ -51,10 +39,10 @@ fitted-back (fitted.Refused refusal) = refl
 -- ---- the four calls
 
 pub add-once : (a b out : List ℕ) (r q : Written) (x y : List ℕ) → Adds a b out r x → Adds a b out q y → (r ≡ q) × (x ≡ y)
-add-once a b out r q x y p o = (written-once r q (p .0 ∙ sym (o .0)), p .1 ∙ sym (o .1))
+add-once a b out r q x y = leaves-once (addOutcome a b out) (addUp a b) out
 
 pub cut-once : (curve : List ℕ) (T : ℕ) (out : List ℕ) (r q : Written) (x y : List ℕ) → Cuts curve T out r x → Cuts curve T out q y → (r ≡ q) × (x ≡ y)
-cut-once curve T out r q x y p o = (written-once r q (p .0 ∙ sym (o .0)), p .1 ∙ sym (o .1))
+cut-once curve T out r q x y = leaves-once (cutOutcome curve T out) (cutAt T curve) out
 
 pub fit-once : (demand supply left served rest : List ℕ) (r q : Fitted) (x₁ x₂ x₃ y₁ y₂ y₃ : List ℕ)
     → Fits demand supply left served rest r x₁ x₂ x₃ → Fits demand supply left served rest q y₁ y₂ y₃

@@ -11,16 +11,10 @@ use Rattle.fitting.specs.Steps.{fitsAll}
 use Rattle.basics.specs.Choice.{pick}
 use Rattle.windows.specs.Windows.{isPlain, addUp, cutAt, Fit, fit, Instant, at, notProvided, provide}
 use Rattle.refusals.specs.declared.Ground.the-variants.{ArgumentZero, NotPlain, NoRoom}
-use Rattle.curves.specs.declared.Written.{Written}
-use Rattle.curves.specs.declared.Written.the-variants as written
 use Rattle.curves.specs.declared.Provided.{Provided}
 use Rattle.curves.specs.declared.Provided.the-variants as provided
 use Rattle.curves.specs.declared.Fitted.{Fitted}
 use Rattle.curves.specs.declared.Fitted.the-variants as fitted
-
-abbrev pub writtenOf : Written → Outcome ℕ
-writtenOf (written.Count n) = answer n
-writtenOf (written.Refused refusal) = refused refusal
 
 abbrev pub providedOf : Provided → Outcome Instant
 providedOf (provided.At t) = answer (at t)

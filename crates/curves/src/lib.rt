@@ -2,6 +2,7 @@
 // ends. Any slice and any number may be handed in; a bad one is refused, and a refused call changes nothing that was lent.
 use refusals::Ground;
 use refusals::Refusal;
+use refusals::Written;
 use refusals::refused;
 use walks::LIMIT;
 use walks::adding;
@@ -9,12 +10,6 @@ use walks::cutting;
 ghost use mathlib.Core.Path.{_≡_};
 ghost use Rattle.windows.specs.Windows.{isPlain};
 ghost use Rattle.curves.specs.Calls.{Adds, Cuts, Fits, Provides};
-
-// How many numbers a call wrote to the front of the lent buffer.
-pub enum Written {
-    Count(usize),
-    Refused(Refusal),
-}
 
 // When a curve has given the amount asked for.
 pub enum Provided {

@@ -1,9 +1,10 @@
 // What the curve calls and the report hand out.
 use curves::Fitted;
 use curves::Provided;
-use curves::Written;
+use refusals::Written;
 ghost use mathlib.Core.Path.{_≡_};
-ghost use Rattle.curves.specs.Refusals.{Lengths, writtenOf, fittedOf, providedOf};
+ghost use Rattle.refusals.specs.Outcomes.{writtenOf};
+ghost use Rattle.curves.specs.Refusals.{Lengths, fittedOf, providedOf};
 ghost use Rattle.handing.specs.Handing.{numberIn, handed, instantOr0};
 
 // Hands out a number of an accepted call.

@@ -1,32 +1,14 @@
 -- Lines put one by one, each from the place of its answer. Assumes nothing.
 use Prim.Native.Nat.{ℕ, suc, _+_, _-_, _≤_, _<_}
 use mathlib.Core.Path.{_≡_}
-use mathlib.Core.List.{List, [], _++_}
+use mathlib.Core.List.{List}
 use native.Mathlib.Omega.{arith}
 use native.Mathlib.Numerals.{add-one}
 use lib.ListN.{length, getD}
 use Rattle.answers.proofs.Entries.{inside-any}
 use Rattle.putting.specs.Puts.{Put}
 use Rattle.printing.specs.Report.{listed}
-use Rattle.putting.proofs.Puts.{put-none, put-more}
-
--- ---- what is put so far
-
--- of the bytes `all`, to be put behind n, `rest` is still to come, behind m: once it is put too, all is
-pub record Begun (old now : List ℕ) (n m : ℕ) (rest all : List ℕ) : Type 0 where
-  pub ends : (new : List ℕ) (r : ℕ) → Put now new m rest r → Put old new n all r
-
--- at first all is still to come
-pub begun-none : (old : List ℕ) (n : ℕ) (all : List ℕ) → Begun old old n n all all
-begun-none old n all = record { ends = λ new r w. w }
-
--- a line is put
-begun-next : {old mid now line rest all : List ℕ} {n m k : ℕ} → Begun old mid n m (line ++ rest) all → Put mid now m line k → Begun old now n k rest all
-begun-next b v = record { ends = λ new r w. b .ends new r (put-more v w) }
-
--- in the end all is put
-begun-all : {old now all : List ℕ} {n m : ℕ} → Begun old now n m [] all → Put old now n all m
-begun-all {now = now} {m = m} b = b .ends now m (put-none now m)
+use Rattle.putting.proofs.Puts.{Begun, begun-next, begun-all}
 
 -- ---- the lines still to come from place i on
 

@@ -17,7 +17,7 @@ ghost use Rattle.putting.specs.Puts.{Put};
 ghost use Rattle.printing.specs.Report.{refusedLine, spanLine, shortField, serverLine, responseFields, taskLine, serverLines, taskLines, reportOf};
 
 // Puts the line of a refusal.
-fn put_refused(out: &mut [u8], n: usize, refusal: Refusal) -> usize
+pub fn put_refused(out: &mut [u8], n: usize, refusal: Refusal) -> usize
     requires { ⌜ n + 30 ≤ 1000000 ⌝ }
     ensures { λ r. ⌜ Put (now (out .entry)) (now (out .exit)) n (refusedLine refusal) r × (r ≤ n + 30) ⌝ }
 {

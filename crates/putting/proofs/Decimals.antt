@@ -64,6 +64,10 @@ digits-length (suc j) k n h = go (decLt n 10) k h (λ i. digits-length j i (n / 
 pub decimal-below : (k n : ℕ) → n < 10 ^ suc k → length (decimal n) ≤ suc k
 decimal-below k n h = digits-length (suc n) k n h
 
+-- a number of ten or more has one digit more than its tenth
+pub decimal-tenth : (n : ℕ) → 10 ≤ n → length (decimal n) ≡ length (decimal (n / 10)) + 1
+decimal-tenth n h = ap length (decimal-more n h) ∙ length-append (decimal (n / 10)) ((48 + n % 10) ∷ [])
+
 -- a `u32` has at most ten
 pub decimal-length : (n : ℕ) → Fits w32 n → length (decimal n) ≤ 10
 decimal-length n h = decimal-below 9 n (omega (arith, h .fits))
@@ -152,3 +156,15 @@ decimal-reads n h =
     let w = digits-written (suc n) n (omega arith) in
     let five = decimal-below 4 n (omega arith) in
     rw (written-some n _ w, written-word n _ w, written-digits n _ w, written-starts n _ w, le-leb _ 5 five, written-value n _ w)
+
+-- it has a digit
+pub decimal-some : (n : ℕ) → 1 ≤ length (decimal n)
+decimal-some n = let w = digits-written (suc n) n (omega arith) in omega (arith, ap length (w .is))
+
+-- it is no dash
+pub decimal-word : (n : ℕ) → sameBytes (decimal n) dash ≡ false
+decimal-word n = written-word n _ (digits-written (suc n) n (omega arith))
+
+-- it has only digits
+pub decimal-digits : (n : ℕ) → all isDigit (decimal n) ≡ true
+decimal-digits n = written-digits n _ (digits-written (suc n) n (omega arith))

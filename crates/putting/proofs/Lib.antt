@@ -4,3 +4,4 @@ pub mod Numbers
 pub mod Puts
 pub mod Signs
 pub mod Examples
+pub mod Rooms

@@ -1,12 +1,12 @@
 -- Bytes put one behind the other are the stores of all of them in a row. Assumes nothing.
 use Prim.Native.Nat.{ℕ, suc, _+_, _≤_, _<_}
 use mathlib.Core.Path.{_≡_, refl, sym, ap, _∙_}
-use mathlib.Core.List.{List, [], _∷_, _++_, append-assoc}
+use mathlib.Core.List.{List, [], _∷_, _++_, append-assoc, append-nil}
 use native.Mathlib.Nat.{add-zero}
 use native.Mathlib.Omega.{arith}
 use native.Mathlib.Numerals.{add-one}
-use lib.ListN.{length, take, drop, set, getD, length-append}
-use lib.Seq.{sets, sets-eq, length-sets, set-out, length-take-le, take-all, take-suc}
+use lib.ListN.{length, take, drop, set, getD, length-append, length-drop, drop-of-length-le}
+use lib.Seq.{sets, sets-eq, length-sets, set-out, length-take-le, take-all, take-suc, drop-drop}
 use Rattle.putting.specs.Puts.{Put}
 
 -- ---- stores in a row
@@ -59,6 +59,43 @@ put-more {old} {mid} {new} {a} {b} {n} {m} {r} v w =
           ∙ stored-put old (a ++ b) n .fits (omega (arith, c))
           ∙ ap (λ (k : ℕ). take n old ++ ((a ++ b) ++ drop k old)) (sym c);
     }
+
+-- ---- what is put so far
+
+-- of the bytes `all`, to be put behind n, `rest` is still to come, behind m: once it is put too, all is
+pub record Begun (old now : List ℕ) (n m : ℕ) (rest all : List ℕ) : Type 0 where
+  pub ends : (new : List ℕ) (r : ℕ) → Put now new m rest r → Put old new n all r
+
+-- at first all is still to come
+pub begun-none : (old : List ℕ) (n : ℕ) (all : List ℕ) → Begun old old n n all all
+begun-none old n all = record { ends = λ new r w. w }
+
+-- a line is put
+pub begun-next : {old mid now line rest all : List ℕ} {n m k : ℕ} → Begun old mid n m (line ++ rest) all → Put mid now m line k → Begun old now n k rest all
+begun-next b v = record { ends = λ new r w. b .ends new r (put-more v w) }
+
+-- in the end all is put
+pub begun-all : {old now all : List ℕ} {n m : ℕ} → Begun old now n m [] all → Put old now n all m
+begun-all {now = now} {m = m} b = b .ends now m (put-none now m)
+
+-- ---- the part of a buffer behind what is there
+
+-- bytes put at the front of that part, k bytes long, are put behind what is there
+pub put-behind : (old : List ℕ) (at k : ℕ) {part bytes : List ℕ} {r : ℕ} → at + k ≡ length old → Put (take k (drop at old)) part 0 bytes r
+    → Put old (take at old ++ (part ++ drop k (drop at old))) at bytes (at + r)
+put-behind old at k {part} {bytes} {r} h w =
+    let l : length (drop at old) ≡ k = omega (arith, length-drop at old) in
+    let none : drop k (drop at old) ≡ [] = drop-of-length-le (drop at old) {i = k} (omega (arith, l)) in
+    let whole : take k (drop at old) ≡ drop at old = take-all k (drop at old) (omega (arith, l)) in
+    let v : Put (drop at old) part 0 bytes r = rw whole at w in
+    let alone : part ++ drop k (drop at old) ≡ part = ap (λ (l : List ℕ). part ++ l) none ∙ append-nil part in
+    rw alone (record {
+      count = omega (arith, v .count);
+      same = omega (arith, length-append (take at old) part, length-take-le at old (omega arith), v .same, l);
+      fits = λ q.
+          ap (λ (l : List ℕ). take at old ++ l)
+          (v .fits (omega (arith, l)) ∙ ap (λ (l : List ℕ). bytes ++ l) (drop-drop r at old));
+    })
 
 -- ---- a word, byte by byte
 

@@ -45,6 +45,19 @@ pub fn put_number(out: &mut [u8], n: usize, value: u32) -> usize
     put_byte(out, m, b'0' + ((value % 10) as u8))
 }
 
+// How many digits a number has.
+pub fn number_length(value: u32) -> usize
+    ensures { λ r. ⌜ (r ≡ length (decimal value)) × (r ≤ 10) ⌝ }
+{
+    let mut left = value;
+    let mut digits: usize = 1;
+    while 10 <= left {
+        left = left / 10;
+        digits += 1;
+    }
+    digits
+}
+
 // Puts a tab and a number.
 pub fn put_field(out: &mut [u8], n: usize, value: u32) -> usize
     requires { ⌜ n + 11 ≤ 1000000 ⌝ }

@@ -1,6 +1,6 @@
 -- Whatever is accepted meets the rules of a table; and when the numbers 1, 2 and 8 are given. Assumes nothing.
 use Prim.Native.Nat.{ℕ, _+_, _-_, _≤_, _<_}
-use mathlib.Core.Path.{_≡_, refl, sym, _∙_}
+use mathlib.Core.Path.{_≡_, refl, sym, subst, _∙_}
 use mathlib.Core.List.{List, [], _∷_}
 use mathlib.Core.Bool.{Bool, true, false, _&&_}
 use native.Mathlib.Omega.{arith}
@@ -10,7 +10,9 @@ use borrow.Author.Tests.{ltb-true, eqb-false, le-leb, lt-leb}
 use Rattle.basics.specs.Choice.{pick}
 use Rattle.basics.proofs.Tests.{and-left, and-right}
 use Rattle.table.specs.Rules.{between, obeys, serversOf, tasksOf}
+use Rattle.table.specs.Places.{Obeyed}
 use Rattle.table.specs.Span.{periodsOf, spanOf}
+use Rattle.table.proofs.Obeyed.{obeyed-of}
 use Rattle.table.proofs.Spans.{SearchSays, span-says}
 use Rattle.table.specs.declared.Table.{Table}
 use Rattle.table.specs.declared.Span.{Span}
@@ -29,9 +31,9 @@ use Rattle.reading.proofs.Rows.{InRules, Sized, Says, line-says, rules-
 
 -- ---- an accepted table obeys the rules
 
-abbrev pub Obeyed : Answer → Table → Type 0
-Obeyed Accepted t = obeys t ≡ true
-Obeyed (Refused f) t = Unit {0}
+abbrev pub IfAccepted : Answer → Table → Type 0
+IfAccepted Accepted t = obeys t ≡ true
+IfAccepted (Refused f) t = Unit {0}
 
 within : (low high n : ℕ) → low ≤ n → n ≤ high → between low high n ≡ true
 within low high n h k = rw (le-leb low n h, le-leb n high k)
@@ -41,19 +43,19 @@ whole-obeys t p a b c d =
     rw (within 1 16 (t .«servers_n») a (p .few), within 1 64 (t .«tasks_n») b (p .many), within 1 16000 (t .span) c d, p .servers) (p .tasks)
 
 resolved-obeys : (t : Table) (r : Span) → SearchSays (periodsOf (serversOf t) (tasksOf t)) 16000 1 r → InRules t → 0 < t .«servers_n» → 0 < t .«tasks_n»
-    → Obeyed (resolved t r .answer) (resolved t r .table)
+    → IfAccepted (resolved t r .answer) (resolved t r .table)
 resolved-obeys t (Ticks h) s p a b =
     whole-obeys (withSpan t h) (record { few = p .few; many = p .many; servers = p .servers; tasks = p .tasks }) a b (s .from) (omega (arith, s .below))
 resolved-obeys t Over s p a b = tt
 
-ended-obeys : (t : Table) (n : ℕ) → InRules t → t .span ≤ 16000 → Obeyed (endedOf t n .answer) (endedOf t n .table)
+ended-obeys : (t : Table) (n : ℕ) → InRules t → t .span ≤ 16000 → IfAccepted (endedOf t n .answer) (endedOf t n .table)
 ended-obeys t n p h = go (ltb 0 (t .«servers_n») && ltb 0 (t .«tasks_n»)) refl (eqb (t .span) 0) refl
   where
     x : Reading
     x = resolved t (spanOf (periodsOf (serversOf t) (tasksOf t)))
 
     go : (b : Bool) → (ltb 0 (t .«servers_n») && ltb 0 (t .«tasks_n»)) ≡ b → (e : Bool) → eqb (t .span) 0 ≡ e
-        → Obeyed (pick b (pick e x (accepted t)) (refusal what.Missing n 0) .answer) (pick b (pick e x (accepted t)) (refusal what.Missing n 0) .table)
+        → IfAccepted (pick b (pick e x (accepted t)) (refusal what.Missing n 0) .answer) (pick b (pick e x (accepted t)) (refusal what.Missing n 0) .table)
     go true q true e =
         resolved-obeys t (spanOf (periodsOf (serversOf t) (tasksOf t))) (span-says (periodsOf (serversOf t) (tasksOf t))) p
         (ltb-true 0 (t .«servers_n») (and-left (ltb 0 (t .«servers_n»)) (ltb 0 (t .«tasks_n»)) q))
@@ -70,14 +72,14 @@ span-kept t (ServerIs x) p s = p
 span-kept t (TaskIs k) p s = p
 span-kept t (Wrong w place) p s = p
 
-after-obeys : (line : Line) (t : Table) (n : ℕ) (next : Table → Reading) → Obeyed (next (withLine t line) .answer) (next (withLine t line) .table)
-    → Obeyed (afterLine line t n next .answer) (afterLine line t n next .table)
+after-obeys : (line : Line) (t : Table) (n : ℕ) (next : Table → Reading) → IfAccepted (next (withLine t line) .answer) (next (withLine t line) .table)
+    → IfAccepted (afterLine line t n next .answer) (afterLine line t n next .table)
 after-obeys (SpanIs h) t n next p = p
 after-obeys (ServerIs x) t n next p = p
 after-obeys (TaskIs k) t n next p = p
 after-obeys (Wrong w place) t n next p = tt
 
-lines-obey : (ls : List (List ℕ)) (t : Table) (n : ℕ) → Sized t → InRules t → t .span ≤ 16000 → Obeyed (readLines ls t n .answer) (readLines ls t n .table)
+lines-obey : (ls : List (List ℕ)) (t : Table) (n : ℕ) → Sized t → InRules t → t .span ≤ 16000 → IfAccepted (readLines ls t n .answer) (readLines ls t n .table)
 unfolding readLines
 lines-obey [] t n z p h = ended-obeys t n p h
 lines-obey (l ∷ ls) t n z p h =
@@ -86,13 +88,13 @@ lines-obey (l ∷ ls) t n z p h =
     after-obeys line t n (λ u. readLines ls u (n + 1))
     (lines-obey ls (withLine t line) (n + 1) (sized-kept t line z) (rules-kept t line z p s) (span-kept t line h s))
 
-pub read-obeys : (text : List ℕ) → Obeyed (readingOf text .answer) (readingOf text .table)
+pub read-obeys : (text : List ℕ) → IfAccepted (readingOf text .answer) (readingOf text .table)
 read-obeys text = go (leb (length text) 4096) (endsWithFeed text)
   where
     lines : Reading
     lines = readLines (linesOf text) noTable 1
 
-    go : (a b : Bool) → Obeyed (pick a (pick b lines (refusal what.NotEnded 0 0)) (refusal what.TextTooLong 0 0) .answer)
+    go : (a b : Bool) → IfAccepted (pick a (pick b lines (refusal what.NotEnded 0 0)) (refusal what.TextTooLong 0 0) .answer)
         (pick a (pick b lines (refusal what.NotEnded 0 0)) (refusal what.TextTooLong 0 0) .table)
     go true true = lines-obey (linesOf text) noTable 1 none-sized none-yet (omega arith)
     go true false = tt
@@ -138,6 +140,12 @@ read-sized text = go (leb (length text) 4096) (endsWithFeed text)
     go true true = lines-sized (linesOf text) noTable 1 none-sized
     go true false = none-sized
     go false b = none-sized
+
+-- the table of an accepted text obeys the rules and has all the entries that it counts
+pub accepted-obeyed : (text : List ℕ) → readingOf text .answer ≡ Accepted → Obeyed (readingOf text .table)
+accepted-obeyed text e =
+    let z = read-sized text in
+    obeyed-of (readingOf text .table) (subst (λ (a : Answer). IfAccepted a (readingOf text .table)) e (read-obeys text)) (z .of-servers) (z .of-tasks)
 
 -- ---- 1: "text over 4,096 bytes"; 2: "text empty or last byte not a line feed"
 

@@ -1,7 +1,7 @@
 -- Line after line: what a line can say, that the table stays within its rules, and where the next line starts. Assumes nothing.
 use Prim.Native.Nat.{ℕ, zero, suc, _+_, _-_, _≤_, _<_}
 use mathlib.Core.Path.{_≡_, refl, sym, ap, subst, _∙_}
-use mathlib.Core.List.{List, [], _∷_, _++_}
+use mathlib.Core.List.{List, [], _∷_}
 use mathlib.Core.Bool.{Bool, true, false, _&&_}
 use native.Mathlib.Numerals.{add-one}
 use native.Mathlib.Omega.{arith}
@@ -12,6 +12,7 @@ use borrow.Author.Tests.{ltb-true, leb-true, eqb-true, eq-eqb}
 use Rattle.basics.specs.Choice.{pick}
 use Rattle.basics.proofs.Tests.{and-left, and-right}
 use Rattle.table.specs.Rules.{all, between, inTicks, serverObeys, taskObeys, serversOf, tasksOf}
+use Rattle.table.proofs.Entries.{all-append}
 use Rattle.table.specs.declared.Server.{Server}
 use Rattle.table.specs.declared.Task.{Task}
 use Rattle.table.specs.declared.Table.{Table}
@@ -148,13 +149,9 @@ pub record InRules (t : Table) : Type 0 where
   pub tasks : all (taskObeys (t .«servers_n»)) (tasksOf t) ≡ true
 
 -- the entries with one more
-all-append : {A : Type 0} (f : A → Bool) (l : List A) (a : A) → all f l ≡ true → f a ≡ true → all f (l ++ (a ∷ [])) ≡ true
-unfolding all
-all-append f [] a h k = rw k
-all-append f (x ∷ l) a h k = and-both (and-left (f x) (all f l) h) (all-append f l a (and-right (f x) (all f l) h) k)
-
 one-more : {A : Type 0} (f : A → Bool) (xs : List A) (n : ℕ) (a : A) → n < length xs → all f (take n xs) ≡ true → f a ≡ true → all f (take (n + 1) (set xs n a)) ≡ true
-one-more f xs n a h p q = rw (add-one, take-suc-set xs n a h) (all-append f (take n xs) a p q)
+unfolding all
+one-more f xs n a h p q = rw (add-one, take-suc-set xs n a h) (all-append f (take n xs) (a ∷ []) p (and-both q refl))
 
 -- the arrays of a table have their lengths
 pub record Sized (t : Table) : Type 0 where

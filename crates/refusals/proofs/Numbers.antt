@@ -26,6 +26,7 @@ number-within ground.NotPlain = (omega arith, omega arith)
 number-within ground.NoRoom = (omega arith, omega arith)
 number-within ground.ArgumentZero = (omega arith, omega arith)
 number-within ground.OutOfStep = (omega arith, omega arith)
+number-within ground.RulesBroken = (omega arith, omega arith)
 
 pub number-some : (g : Ground) → 0 < numberOf g
 number-some g = number-within g .0

@@ -1,8 +1,11 @@
 -- Document 01, 'Numbers given on refusal': what a call answers, and a lent buffer afterwards.
 use Prim.Native.Nat.{ℕ}
+use mathlib.Core.Path.{_≡_}
 use mathlib.Core.List.{List, _++_}
 use lib.ListN.{length, drop}
 use Rattle.refusals.specs.declared.Refusal.{Refusal}
+use Rattle.refusals.specs.declared.Written.{Written}
+use Rattle.refusals.specs.declared.Written.the-variants as written
 
 -- "A refusal hands back number and line only"
 pub data Outcome (A : Type 0) : Type 0 where
@@ -17,3 +20,14 @@ front result old = result ++ drop (length result) old
 abbrev pub lent : {A : Type 0} → Outcome A → List ℕ → List ℕ → List ℕ
 lent (answer n) result old = front result old
 lent (refused refusal) result old = old
+
+-- ---- a call that writes one result to a lent buffer
+
+abbrev pub writtenOf : Written → Outcome ℕ
+writtenOf (written.Count n) = answer n
+writtenOf (written.Refused refusal) = refused refusal
+
+-- by the outcome, the result and the buffer: what it answers, and the buffer afterwards
+pub record Leaves (outcome : Outcome ℕ) (result old : List ℕ) (r : Written) (after : List ℕ) : Type 0 where
+  pub answer-is : writtenOf r ≡ outcome
+  pub buffer : after ≡ lent outcome result old

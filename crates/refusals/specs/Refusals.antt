@@ -34,6 +34,8 @@ numberOf ground.ArgumentZero = 12
 -- 13 "step: table breaks the rules above, or tick is H or more, or a budget above its C, or waiting work above 300,000,000; curves: tick
 -- asked is H or more"
 numberOf ground.OutOfStep = 13
+-- document 02, E1: "13 if the table breaks the rules"
+numberOf ground.RulesBroken = 13
 
 -- "With each goes a line number, counted from 1, and 0 except for 3 to 7"; the place is the field's, the line's first word being 1, or 0
 abbrev pub refusedAt : Ground → ℕ → ℕ → Refusal

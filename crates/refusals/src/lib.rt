@@ -2,7 +2,7 @@
 ghost use mathlib.Core.Path.{_≡_};
 ghost use Rattle.refusals.specs.Refusals.{numberOf, refusedAt, noRefusal};
 
-// What can be wrong: with a text, with lent buffers and curves, with arguments, with a state.
+// What can be wrong: with a text, with lent buffers and curves, with arguments, with a state, with a table.
 pub enum Ground {
     TextTooLong,
     NotEnded,
@@ -23,6 +23,7 @@ pub enum Ground {
     NoRoom,
     ArgumentZero,
     OutOfStep,
+    RulesBroken,
 }
 
 // The number of what is wrong, in which line from 1 on and at which place of it, the first word being 1; 0 where there is none. All are 0 where
@@ -31,6 +32,12 @@ pub struct Refusal {
     pub number: u32,
     pub line: u32,
     pub place: u32,
+}
+
+// How many numbers or bytes a call wrote to the front of the lent buffer.
+pub enum Written {
+    Count(usize),
+    Refused(Refusal),
 }
 
 // 01's number for what is wrong.
@@ -57,6 +64,7 @@ pub fn number_of(ground: Ground) -> u32
         Ground::NoRoom => 11,
         Ground::ArgumentZero => 12,
         Ground::OutOfStep => 13,
+        Ground::RulesBroken => 13,
     }
 }
 

@@ -1,8 +1,8 @@
 // Reads a table's text from standard input and writes its report.
-use curves::Written;
+use refusals::Written;
 ghost use mathlib.Core.Path.{_≡_};
 ghost use Rattle.refusals.specs.declared.Refusal.{Refusal};
-ghost use Rattle.curves.specs.declared.Written.the-variants.{Count, Refused};
+ghost use Rattle.refusals.specs.declared.Written.the-variants.{Count, Refused};
 
 // More bytes than a table's text may have: of a longer input, no more has to be read.
 const INPUT: usize = 5000;

@@ -1,8 +1,8 @@
 // The report of a table's text, as text.
 use answers::Analysis;
-use curves::Written;
 use printing::put_report;
 use refusals::Ground;
+use refusals::Written;
 use refusals::refused;
 ghost use mathlib.Core.Path.{_≡_};
 ghost use mathlib.Core.Bool.{true};

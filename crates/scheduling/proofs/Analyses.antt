@@ -23,7 +23,7 @@ use Rattle.answers.proofs.Saying.{server-says, task-says}
 use Rattle.answers.proofs.Within.{ResponseWithin, ServerWithin, Within, server-within, task-within}
 use Rattle.opening.specs.Opening.{answerBy}
 use Rattle.scheduling.specs.Analysing.{notAnalysed, analysed, analysisOf, Says}
-use Rattle.scheduling.proofs.Calls.{accepted-obeyed}
+use Rattle.reading.proofs.Accepted.{accepted-obeyed}
 
 -- ---- sizes
 

@@ -1,4 +1,4 @@
--- The table of an accepted text, and the six work buffers of a call. Assumes nothing.
+-- The six work buffers of a call. Assumes nothing.
 use Prim.Native.Nat.{ℕ, _≤_, _<_}
 use mathlib.Core.Path.{_≡_, refl, ap, subst, _∙_}
 use mathlib.Core.List.{List}
@@ -8,22 +8,8 @@ use lib.ListN.{length, replicate}
 use lib.Dec.{leb}
 use borrow.Author.Tests.{leb-true, ne-eqb}
 use Rattle.basics.proofs.Tests.{and-left, and-right}
-use Rattle.table.specs.Places.{Obeyed}
-use Rattle.table.proofs.Obeyed.{obeyed-of}
-use Rattle.reading.specs.Reading.{readingOf}
-use Rattle.reading.specs.declared.Answer.{Answer}
-use Rattle.reading.specs.declared.Answer.the-variants.{Accepted}
-use Rattle.reading.proofs.Accepted.{read-obeys, read-sized}
-use Rattle.reading.proofs.Accepted as reading
 use Rattle.opening.specs.Opening.{enough}
 use Rattle.scheduling.specs.Buffers.{afterwards, Buffers}
-
--- ---- the table of an accepted text
-
-pub accepted-obeyed : (text : List ℕ) → readingOf text .answer ≡ Accepted → Obeyed (readingOf text .table)
-accepted-obeyed text e =
-    let z = read-sized text in
-    obeyed-of (readingOf text .table) (subst (λ (a : Answer). reading.Obeyed a (readingOf text .table)) e (read-obeys text)) (z .of-servers) (z .of-tasks)
 
 -- ---- the buffers
 

@@ -18,7 +18,7 @@ use Rattle.opening.specs.declared.Opened.{Opened}
 use Rattle.opening.specs.Opening.{openedOf}
 use Rattle.scheduling.specs.Asking.{noWho, whoOf}
 use Rattle.scheduling.specs.Analysing.{notAnalysed, analysisOf}
-use Rattle.scheduling.proofs.Calls.{accepted-obeyed}
+use Rattle.reading.proofs.Accepted.{accepted-obeyed}
 
 module _ (text : List ℕ) (tick : ℕ) where
   -- the call is not refused

@@ -14,7 +14,8 @@ use Rattle.scheduling.specs.declared.Who.{Who}
 use Rattle.scheduling.specs.Buffers.{Buffers}
 use Rattle.scheduling.specs.Asking.{whoOf, Asks}
 use Rattle.scheduling.specs.Analysing.{Analyses}
-use Rattle.scheduling.proofs.Calls.{accepted-obeyed, by-number}
+use Rattle.reading.proofs.Accepted.{accepted-obeyed}
+use Rattle.scheduling.proofs.Calls.{by-number}
 
 -- ---- two outcomes that a contract permits are equal
 

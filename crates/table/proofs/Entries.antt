@@ -1,7 +1,7 @@
 -- The entries of a table within its count, one at a time. Assumes nothing.
 use Prim.Native.Nat.{ℕ, suc, _+_, _≤_, _<_, min}
 use mathlib.Core.Path.{_≡_, refl, sym, ap, _∙_}
-use mathlib.Core.List.{List, [], _∷_, map}
+use mathlib.Core.List.{List, [], _∷_, _++_, map}
 use mathlib.Core.Bool.{Bool, true, false, _&&_}
 use native.Mathlib.Numerals.{add-one}
 use native.Mathlib.Omega.{arith}
@@ -42,6 +42,12 @@ module _ {A : Type 0} (xs : List A) (n : ℕ) (h : n ≤ length xs) where
         let b = all f (drop (i + 1) (take n xs)) in
         let w : (a && b) ≡ true = sym (all-next d i k) ∙ e in
         (and-left a b w, and-right a b w)
+
+-- two lists whose entries all pass
+pub all-append : {A : Type 0} (f : A → Bool) (l m : List A) → all f l ≡ true → all f m ≡ true → all f (l ++ m) ≡ true
+unfolding all
+all-append f [] m h k = k
+all-append f (a ∷ l) m h k = rw (and-left (f a) (all f l) h) (all-append f l m (and-right (f a) (all f l) h) k)
 
 -- what owning a struct with a field that is an array of structs tells of the field's length
 pub length-mapped : {A B : Type 0} (f : A → B) (xs : List A) (n : ℕ) → length (map f xs) ≡ n → length xs ≡ n

@@ -11,6 +11,7 @@ use borrow.Author.Tests.{leb-true}
 use Rattle.basics.specs.Choice.{pick}
 use Rattle.basics.proofs.Tests.{and-left, and-right}
 use Rattle.table.specs.Rules.{all, between, inTicks, serverObeys, releaseObeys, taskObeys, noServer, noTask, serversOf, tasksOf, obeys}
+use Rattle.table.specs.declared.Server.{Server}
 use Rattle.table.specs.declared.Task.{Task}
 use Rattle.table.specs.declared.Table.{Table}
 use Rattle.table.proofs.Entries.{all-at}
@@ -20,10 +21,10 @@ use Rattle.table.specs.Releases.{releasedAt, gains}
 -- ---- the tests of the rules
 
 module _ (low high n : ℕ) (e : between low high n ≡ true) where
-  between-low : low ≤ n
+  pub between-low : low ≤ n
   between-low = leb-true low n (and-left (leb low n) (leb n high) e)
 
-  between-high : n ≤ high
+  pub between-high : n ≤ high
   between-high = leb-true n high (and-right (leb low n) (leb n high) e)
 
 -- what all of the first n entries pass, each does
@@ -34,6 +35,14 @@ module _ {A : Type 0} (xs : List A) (n : ℕ) (h : n ≤ length xs) (f : A → B
 
   entry-passes : (i : ℕ) → i < n → f (getD xs i d) ≡ true
   entry-passes i k = all-at xs n h f d i k (all-from i (omega arith)) .0
+
+-- a server's numbers
+pub server-numbers : (s : Server) → serverObeys s ≡ true → (s .capacity ≤ 16000) × (s .period ≤ 16000)
+server-numbers s e =
+    let e₁ = and-right (inTicks (s .capacity)) _ e in (
+      between-high 1 16000 (s .capacity) (and-left (inTicks (s .capacity)) _ e),
+      between-high 1 16000 (s .period) (and-left (inTicks (s .period)) _ e₁),
+    )
 
 -- the counts
 module _ (table : Table) (e : obeys table ≡ true) where
@@ -52,17 +61,21 @@ module _ (table : Table) (e : obeys table ≡ true) where
 module _ (table : Table) (ok : Obeyed table) where
   -- ---- the rules, parted
 
-  record Parts : Type 0 where
-    span : inTicks (table .span) ≡ true
-    each-server : all serverObeys (serversOf table) ≡ true
-    each-task : all (taskObeys (table .«servers_n»)) (tasksOf table) ≡ true
+  pub record Parts : Type 0 where
+    pub some-server : 1 ≤ table .«servers_n»
+    pub some-task : 1 ≤ table .«tasks_n»
+    pub span : inTicks (table .span) ≡ true
+    pub each-server : all serverObeys (serversOf table) ≡ true
+    pub each-task : all (taskObeys (table .«servers_n»)) (tasksOf table) ≡ true
 
-  parts : Parts
+  pub parts : Parts
   parts =
       let e₁ = and-right (between 1 16 (table .«servers_n»)) _ (ok .rules) in
       let e₂ = and-right (between 1 64 (table .«tasks_n»)) _ e₁ in
       let e₃ = and-right (inTicks (table .span)) _ e₂ in
       record {
+        some-server = between-low 1 16 (table .«servers_n») (and-left (between 1 16 (table .«servers_n»)) _ (ok .rules));
+        some-task = between-low 1 64 (table .«tasks_n») (and-left (between 1 64 (table .«tasks_n»)) _ e₁);
         span = and-left (inTicks (table .span)) _ e₂;
         each-server = and-left (all serverObeys (serversOf table)) _ e₃;
         each-task = and-right (all serverObeys (serversOf table)) _ e₃;
@@ -91,11 +104,7 @@ module _ (table : Table) (ok : Obeyed table) where
       between-low 1 16000 (serverAt table i .period) (and-left (inTicks (serverAt table i .period)) _ e)
 
   pub server-ticks : (i : ℕ) → i < table .«servers_n» → (serverAt table i .capacity ≤ 16000) × (serverAt table i .period ≤ 16000)
-  server-ticks i h =
-      let e = and-right (inTicks (serverAt table i .capacity)) _ (server-rule i h) in (
-        between-high 1 16000 (serverAt table i .capacity) (and-left (inTicks (serverAt table i .capacity)) _ (server-rule i h)),
-        between-high 1 16000 (serverAt table i .period) (and-left (inTicks (serverAt table i .period)) _ e),
-      )
+  server-ticks i h = server-numbers (serverAt table i) (server-rule i h)
 
   -- ---- each task
 

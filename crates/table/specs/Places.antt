@@ -5,7 +5,7 @@ use mathlib.Core.Bool.{Bool, true}
 use lib.ListN.{length, getD}
 use lib.Dec.{eqb}
 use Rattle.basics.specs.Choice.{pick}
-use Rattle.table.specs.Rules.{noServer, noTask, obeys}
+use Rattle.table.specs.Rules.{noServer, noTask, serversOf, tasksOf, obeys}
 use Rattle.table.specs.declared.Server.{Server}
 use Rattle.table.specs.declared.Task.{Task}
 use Rattle.table.specs.declared.Table.{Table}
@@ -31,3 +31,11 @@ pub record Obeyed (table : Table) : Type 0 where
   pub rules : obeys table ≡ true
   pub servers : table .«servers_n» ≤ length (table .servers)
   pub tasks : table .«tasks_n» ≤ length (table .tasks)
+
+-- document 02, E1: "tables are equal when H, the counts and all entries within the counts are"
+pub record Same (a b : Table) : Type 0 where
+  pub span : a .span ≡ b .span
+  pub «servers_n» : a .«servers_n» ≡ b .«servers_n»
+  pub «tasks_n» : a .«tasks_n» ≡ b .«tasks_n»
+  pub servers : serversOf a ≡ serversOf b
+  pub tasks : tasksOf a ≡ tasksOf b

@@ -3,7 +3,7 @@ use batch::put_bad;
 use batch::put_byte;
 use batch::put_number;
 use batch::put_word;
-use curves::Written;
+use refusals::Written;
 use text_lines::put_refused;
 use watching::put_answer;
 ghost use Prim.Native.Nat.{_≤_, _<_};

@@ -37,7 +37,7 @@ refused-requires c κs = search needs
 returns : tie.Need-returns
 returns c =
     let t = c .before .before .plain in
-    rw (sym (t .ensures) ∙ not-true (t .result) (c .before .if1 .taken), c .refused .ensures) (refl, refl)
+    rw (sym (t .ensures) ∙ not-true (t .result) (c .before .if1 .taken), c .refused .ensures) (record { answer-is = refl; buffer = refl })
 
 plain-requires-2 : tie.Need-plain-requires-2
 plain-requires-2 c κs = search needs
@@ -48,7 +48,7 @@ refused-requires-2 c κs = search needs
 returns-2 : tie.Need-returns-2
 returns-2 c =
     let t = c .before .before .plain2 in
-    rw (left-so (c .before .before .before), sym (t .ensures) ∙ not-true (t .result) (c .before .if2 .taken), c .refused2 .ensures) (refl, refl)
+    rw (left-so (c .before .before .before), sym (t .ensures) ∙ not-true (t .result) (c .before .if2 .taken), c .refused2 .ensures) (record { answer-is = refl; buffer = refl })
 
 fits-requires : tie.Need-fits-requires
 fits-requires c κs = (left-so (c .before .before), right-so c)
@@ -60,7 +60,7 @@ returns-3 : tie.Need-returns-3
 returns-3 c =
     let t = c .before .before .fits2 in
     let d = c .before .before .before in
-    rw (left-so (d .before .before), right-so d, sym (t .ensures) ∙ not-true (t .result) (c .before .if3 .taken), c .refused3 .ensures) (refl, refl)
+    rw (left-so (d .before .before), right-so d, sym (t .ensures) ∙ not-true (t .result) (c .before .if3 .taken), c .refused3 .ensures) (record { answer-is = refl; buffer = refl })
 
 write-requires : tie.Need-write-requires
 write-requires c κs = let d = c .before in (left-so (d .before .before .before .before), right-so (d .before .before), fits-so d)
@@ -72,7 +72,7 @@ returns-4 : tie.Need-returns-4
 returns-4 c =
     let w = c .before .before in
     let d = w .before .before in
-    rw (left-so (d .before .before .before .before), right-so (d .before .before), fits-so d) (rw (w .write .ensures .0), w .write .ensures .1)
+    rw (left-so (d .before .before .before .before), right-so (d .before .before), fits-so d) (record { answer-is = rw (w .write .ensures .0); buffer = w .write .ensures .1 })
 
 pub add-spec : {M : Type 1} → statement M
 add-spec =

@@ -32,7 +32,7 @@ refused-requires : tie.Need-refused-requires
 refused-requires c κs = search needs
 
 returns : tie.Need-returns
-returns c = rw (eq-eqb _ _ (c .before .if1 .taken), c .refused .ensures) (refl, refl)
+returns c = rw (eq-eqb _ _ (c .before .if1 .taken), c .refused .ensures) (record { answer-is = refl; buffer = refl })
 
 plain-requires : tie.Need-plain-requires
 plain-requires c κs = search needs
@@ -43,7 +43,7 @@ refused-requires-2 c κs = search needs
 returns-2 : tie.Need-returns-2
 returns-2 c =
     let t = c .before .before .plain in
-    rw (ne-eqb _ _ (c .before .before .before .if1 .left), sym (t .ensures) ∙ not-true (t .result) (c .before .if2 .taken), c .refused2 .ensures) (refl, refl)
+    rw (ne-eqb _ _ (c .before .before .before .if1 .left), sym (t .ensures) ∙ not-true (t .result) (c .before .if2 .taken), c .refused2 .ensures) (record { answer-is = refl; buffer = refl })
 
 fits-requires : tie.Need-fits-requires
 fits-requires c κs = (omega (arith, c .before .before .if1 .left), plain-so c)
@@ -55,7 +55,7 @@ returns-3 : tie.Need-returns-3
 returns-3 c =
     let t = c .before .before .fits2 in
     let d = c .before .before .before in
-    rw (ne-eqb _ _ (d .before .before .if1 .left), plain-so d, sym (t .ensures) ∙ not-true (t .result) (c .before .if3 .taken), c .refused3 .ensures) (refl, refl)
+    rw (ne-eqb _ _ (d .before .before .if1 .left), plain-so d, sym (t .ensures) ∙ not-true (t .result) (c .before .if3 .taken), c .refused3 .ensures) (record { answer-is = refl; buffer = refl })
 
 write-requires : tie.Need-write-requires
 write-requires c κs =
@@ -69,7 +69,7 @@ returns-4 : tie.Need-returns-4
 returns-4 c =
     let w = c .before .before in
     let d = w .before .before .before .before in
-    rw (ne-eqb _ _ (d .before .before .if1 .left), plain-so d, fits-so (w .before .before), ends-so d) (rw (w .write .ensures .0), w .write .ensures .1)
+    rw (ne-eqb _ _ (d .before .before .if1 .left), plain-so d, fits-so (w .before .before), ends-so d) (record { answer-is = rw (w .write .ensures .0); buffer = w .write .ensures .1 })
 
 pub cut-spec : {M : Type 1} → statement M
 cut-spec =

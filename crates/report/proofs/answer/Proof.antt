@@ -3,7 +3,7 @@ use mathlib.Core.Path.{sym}
 use native.Mathlib.Omega.{arith}
 use lib.Seq.{length-take-le}
 use Rattle.reporting.proofs.Lengths.{report-not-refused}
-use Rattle.reporting.proofs.Reported.{count-fits}
+use Rattle.putting.proofs.Rooms.{count-fits}
 use borrow.Author.Needs.{needs}
 use Rattle.report.proofs.answer.Statement.{statement}
 use Rattle.report.proofs.answer.Tie as tie
@@ -15,7 +15,7 @@ report-requires : tie.Need-report-requires
 report-requires c κs = search needs
 
 count-of-requires : tie.Need-count-of-requires
-count-of-requires c κs = report-not-refused _ _ (omega arith) (c .before .report .ensures)
+count-of-requires c κs = report-not-refused (c .before .before .before .before .args .text .now) _ (omega arith) (c .before .report .ensures)
 
 array-share-prefix-out : tie.Need-array-share-prefix-out
 array-share-prefix-out c = count-fits _ _ (rw (c .count-of .ensures) at (c .before .before .report .ensures))

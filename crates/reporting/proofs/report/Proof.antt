@@ -7,7 +7,7 @@ use Rattle.answers.specs.declared.Analysis.{Analysis}
 use Rattle.scheduling.proofs.Analyses.{Sized, analysis-sized}
 use Rattle.printing.specs.Report.{reportOf}
 use Rattle.reporting.specs.Reporting.{reportFor}
-use Rattle.reporting.proofs.Reported.{reports-refused, reports-written}
+use Rattle.putting.proofs.Rooms.{room-refused, room-written}
 use Rattle.reporting.proofs.report.Statement.{statement}
 use Rattle.reporting.proofs.report.Tie as tie
 
@@ -32,7 +32,7 @@ returns : tie.Need-returns
 returns c =
     let count = c .before .before in
     let a = count .before .before .before .before .args in
-    rw (c .refused .ensures) (reports-refused (a .text .now) (a .out .now) (omega (arith, c .before .if1 .taken, counted count)))
+    rw (c .refused .ensures) (room-refused (reportFor (a .text .now)) (a .out .now) (omega (arith, c .before .if1 .taken, counted count)))
 
 put-report-requires : tie.Need-put-report-requires
 put-report-requires c κs = let s = sized (c .before .before .before) in (s .servers-most, s .tasks-most)
@@ -48,7 +48,7 @@ returns-2 c =
     let analysed = count .before in
     let a = analysed .before .before .before .args in
     rw (counted count)
-    (reports-written (a .text .now) (a .out .now) (omega (arith, test .if1 .left, counted count))
+    (room-written (reportFor (a .text .now)) (a .out .now) (omega (arith, test .if1 .left, counted count))
     (rw (analysed .analysed .ensures) at (put .put-report .ensures .0)))
 
 pub report-spec : {M : Type 1} → statement M

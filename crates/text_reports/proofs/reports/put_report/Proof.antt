@@ -1,7 +1,7 @@
 -- `text_reports::reports::put_report` keeps to its array: a report that is counted fits.
 use mathlib.Core.Path.{sym}
 use lib.Seq.{length-take-le}
-use Rattle.reporting.proofs.Reported.{count-fits}
+use Rattle.putting.proofs.Rooms.{count-fits}
 use borrow.Author.Needs.{needs}
 use Rattle.text_reports.proofs.reports.put_report.Statement.{statement}
 use Rattle.text_reports.proofs.reports.put_report.Tie as tie
