@@ -1,15 +1,17 @@
 -- The writing call: refused where the table breaks the rules, then where the text does not fit; two outcomes are one. Assumes nothing.
 use Prim.Native.Nat.{ℕ, _≤_}
-use mathlib.Core.Path.{_≡_}
+use mathlib.Core.Path.{_≡_, ap, ap₂}
 use mathlib.Core.List.{List}
-use mathlib.Core.Bool.{true, false}
+use mathlib.Core.Bool.{Bool, true, false, _&&_}
 use native.Mathlib.Omega.{arith}
 use lib.ListN.{length}
 use borrow.Author.Tests.{le-leb}
-use Rattle.table.specs.Rules.{obeys}
-use Rattle.table.specs.Places.{Obeyed}
+use Rattle.basics.specs.Choice.{pick}
+use Rattle.table.specs.Rules.{all, between, inTicks, serverObeys, taskObeys, obeys}
+use Rattle.table.specs.Places.{Obeyed, Same}
+use Rattle.table.specs.declared.Task.{Task}
 use Rattle.table.specs.declared.Table.{Table}
-use Rattle.refusals.specs.Outcomes.{answer, Leaves}
+use Rattle.refusals.specs.Outcomes.{answer, refused, Leaves}
 use Rattle.refusals.specs.Refusals.{refusedFor}
 use Rattle.refusals.specs.declared.Ground.the-variants.{RulesBroken}
 use Rattle.refusals.specs.declared.Written.{Written}
@@ -19,6 +21,7 @@ use Rattle.putting.specs.Puts.{inRoom}
 use Rattle.writing.specs.Text.{textOf}
 use Rattle.writing.specs.Writing.{writeOutcome, Writes}
 use Rattle.writing.proofs.Lengths.{text-most}
+use Rattle.writing.proofs.Written.{same-bytes}
 
 module _ (table : Table) (out : List ℕ) where
   -- 13
@@ -36,3 +39,23 @@ module _ (table : Table) (out : List ℕ) where
   -- two outcomes that the contract permits are equal
   pub writes-once : {r q : Written} {a b : List ℕ} → Writes table out r a → Writes table out q b → (r ≡ q) × (a ≡ b)
   writes-once = leaves-once (writeOutcome table out) (textOf table) out
+
+-- ---- "equal tables give equal bytes", whatever they are written into
+
+same-obeys : {a b : Table} → Same a b → obeys a ≡ obeys b
+same-obeys s =
+    ap₂ _&&_ (ap (between 1 16) (s .«servers_n»))
+    (ap₂ _&&_ (ap (between 1 64) (s .«tasks_n»))
+    (ap₂ _&&_ (ap inTicks (s .span))
+    (ap₂ _&&_ (ap (all serverObeys) (s .servers)) (ap₂ (λ (n : ℕ) (l : List Task). all (taskObeys n) l) (s .«servers_n») (s .tasks)))))
+
+same-outcome : {a b : Table} → Same a b → (out : List ℕ) → writeOutcome a out ≡ writeOutcome b out
+same-outcome s out =
+    ap₂ (λ (ok : Bool) (text : List ℕ). pick ok (inRoom text out) (refused (refusedFor RulesBroken))) (same-obeys s) (same-bytes s)
+
+-- the answer and every byte of the buffer are equal too
+pub writes-same : {a b : Table} → Same a b → (out : List ℕ) {r q : Written} {x y : List ℕ} → Writes a out r x → Writes b out q y → (r ≡ q) × (x ≡ y)
+writes-same {b = b} s out {r} {x = x} v w = writes-once b out moved w
+  where
+    moved : Writes b out r x
+    moved = rw (← same-outcome s out, ← same-bytes s) v
