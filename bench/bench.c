@@ -23,19 +23,20 @@ static void analyse(const uint8_t *text, size_t n, struct answers *out)
 {
     uint32_t line;
     uint32_t number = grod_analyse(text, n, work[0], GROD_ROOM, work[1], GROD_ROOM, work[2], GROD_ROOM, work[3], GROD_ROOM, work[4], GROD_ROOM, work[5],
-                                   GROD_ROOM, &line, &out->span, &out->servers_n, &out->tasks_n, out->full, out->short_period, out->outcome, out->response,
-                                   out->release, out->margin);
+                                   GROD_ROOM, &line, &out->span, &out->servers_n, &out->tasks_n, out->servers, out->tasks, out->margin);
     if (number != 0) {
         printf("refused %u %u\n", (unsigned)number, (unsigned)line);
         exit(1);
     }
 }
 
-/* Reading alone, which the analysis does first. */
+/* Reading alone, which the analysis does first, and handing out what was read. */
 static void read_only(const uint8_t *text, size_t n, struct answers *out)
 {
     uint32_t line;
-    grod_read(text, n, &line, &out->span, &out->servers_n, &out->tasks_n);
+    struct grod_server servers[GROD_SERVERS];
+    struct grod_task tasks[GROD_TASKS];
+    grod_read(text, n, &line, &out->span, &out->servers_n, &out->tasks_n, servers, tasks);
 }
 
 /* Clearing alone, which the analysis does last. */

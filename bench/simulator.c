@@ -259,12 +259,9 @@ static void answer_task(uint32_t k, struct answers *out)
 {
     uint32_t j = m.number[k];
     if (m.job[k] < m.span) {
-        out->outcome[j] = GROD_UNFINISHED;
-        out->release[j] = m.job[k];
+        out->tasks[j] = (struct grod_task_answer){GROD_UNFINISHED, 0, m.job[k]};
     } else if (m.worst[k] != 0) {
-        out->outcome[j] = GROD_WORST;
-        out->response[j] = m.worst[k];
-        out->release[j] = m.worst_job[k];
+        out->tasks[j] = (struct grod_task_answer){GROD_WORST, m.worst[k], m.worst_job[k]};
         out->margin[j] = (int32_t)m.deadline[k] - (int32_t)m.worst[k];
     }
 }
@@ -275,8 +272,8 @@ static void answer(struct answers *out)
     out->span = m.span;
     out->servers_n = m.servers;
     out->tasks_n = m.tasks;
-    memcpy(out->full, m.full, m.servers * sizeof *m.full);
-    memcpy(out->short_period, m.short_period, m.servers * sizeof *m.short_period);
+    for (uint32_t s = 0; s < m.servers; s++)
+        out->servers[s] = (struct grod_server_answer){m.full[s], m.short_period[s]};
     for (uint32_t k = 0; k < m.tasks; k++)
         answer_task(k, out);
 }

@@ -8,8 +8,8 @@
 struct answers {
     uint32_t span;
     size_t servers_n, tasks_n;
-    uint32_t full[GROD_SERVERS], short_period[GROD_SERVERS];
-    uint32_t outcome[GROD_TASKS], response[GROD_TASKS], release[GROD_TASKS];
+    struct grod_server_answer servers[GROD_SERVERS];
+    struct grod_task_answer tasks[GROD_TASKS];
     int32_t margin[GROD_TASKS];
 };
 

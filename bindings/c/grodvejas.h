@@ -1,8 +1,8 @@
-/* Grodvejas for programs in C: who runs in every tick of a table, each task's worst response, and the report.
+/* Grodvejas for programs in C: who runs in every tick of a table, each task's worst response, the report, and the table written back.
  *
  * Every call may be handed anything: any bytes, any numbers, any lengths. It ends, and answers 0, or the number of its refusal (below). A refused
  * call changes nothing that was lent or handed in, but for `*line` where the call has one: there stands the line of the text that is refused, counted
- * from 1, and 0 where no line is meant; and but for grod_step, where `*holder` and `*runner` become 0. An accepted call writes 0 to `*line`. What it
+ * from 1, and 0 where no line is meant; and but for the two steps, where `*holder` and `*runner` become 0. An accepted call writes 0 to `*line`. What it
  * writes to a buffer or an array starts at the front, and the rest stays as it was; the work buffers alone are 0 throughout.
  *
  * Pointers are never null, point to as many elements as the length behind them or the array size says, and no two of them overlap, save that two curves
@@ -11,8 +11,8 @@
  * Numbers of refusals: 1 text over 4,096 bytes; 2 text empty or not ended by a line feed; 3 first field unknown or in the wrong place, no server, no
  * task; 4 wrong count of fields; 5 a field is no number, or `-` not allowed, or server kind unknown; 6 number outside its range; 7 a 17th server or a
  * 65th task; 8 span `-` and the multiple is above 16,000; 9 a work buffer of fewer than 16,000 numbers; 10 a curve of odd length or not plain; 11 the
- * result needs more room than lent, or ends above 1,000,000; 12 an amount or a period is 0; 13 step: tick, budget or waiting work out of range, or the
- * tick asked for is at the end of the span or later. */
+ * result needs more room than lent, or ends above 1,000,000; 12 an amount or a period is 0; 13 a table handed in as entries breaks the rules; step: tick,
+ * budget or waiting work out of range; or the tick asked for is at the end of the span or later. */
 #ifndef GRODVEJAS_H
 #define GRODVEJAS_H
 
@@ -27,7 +27,8 @@ enum {
     GROD_SERVERS = 16,    /* the most servers that a table has */
     GROD_TASKS = 64,      /* the most tasks */
     GROD_ROOM = 16000,    /* the least that a work buffer holds */
-    GROD_REPORT = 4096    /* room for any report: it has at most 2,475 bytes, by proof (`report-short`) */
+    GROD_REPORT = 4096,   /* room for any report: it has at most 2,475 bytes, by proof (`report-short`) */
+    GROD_TEXT_MOST = 2603 /* room for any text that grod_write writes: it never has more bytes, by proof (`text-most`) */
 };
 
 /* in `short_period`: no period is short */
@@ -35,6 +36,43 @@ enum {
 
 /* in `outcome` */
 enum { GROD_NONE = 0, GROD_WORST = 1, GROD_UNFINISHED = 2 };
+
+/* in `kind` of a server and in `release` of a task */
+enum { GROD_DEFERRABLE = 1, GROD_PERIODIC = 2 };
+enum { GROD_ONCE = 1, GROD_EVERY = 2 };
+
+/* A server of a table: so many ticks in each period. */
+struct grod_server {
+    uint32_t kind, capacity, period;
+};
+
+/* A task of a table. `server` counts from 1. `first` is the instant of GROD_ONCE and the offset of GROD_EVERY, `period` that of GROD_EVERY: for
+ * GROD_ONCE it is handed out as 0, and not looked at where it is handed in. */
+struct grod_task {
+    uint32_t server, work, release, first, period, deadline;
+};
+
+/* What is answered of a server: how many full periods the span has, and the first of them, from 0, that has fewer free ticks than the capacity, or
+ * GROD_NEVER. */
+struct grod_server_answer {
+    uint32_t full, short_period;
+};
+
+/* What is answered of a task. If `outcome` is GROD_WORST, the response and the release of the first job that attains it; if it is GROD_UNFINISHED, the
+ * release of the first job that has not ended with the span; else 0. */
+struct grod_task_answer {
+    uint32_t outcome, response, release;
+};
+
+/* the library has them as rows of numbers of four bytes */
+#ifdef __cplusplus
+#define GROD_ASSERT static_assert
+#else
+#define GROD_ASSERT _Static_assert
+#endif
+GROD_ASSERT(sizeof(struct grod_server) == 12 && sizeof(struct grod_task) == 24, "entries have no gaps");
+GROD_ASSERT(sizeof(struct grod_server_answer) == 8 && sizeof(struct grod_task_answer) == 12, "answers have no gaps");
+#undef GROD_ASSERT
 
 /* ---- curves: windows as pairs of numbers, start and end; a window (s, e) covers the ticks s to e - 1 */
 
@@ -53,10 +91,21 @@ uint32_t grod_fit(const uint32_t *demand, size_t demand_n, const uint32_t *suppl
 /* Writes the instant at which the curve has given `amount` ticks to `*instant`, or 0 if it gives fewer. Refuses 12, 10. */
 uint32_t grod_time_to_provide(const uint32_t *curve, size_t curve_n, uint32_t amount, uint32_t *instant);
 
-/* ---- tables: a table is handed in as its text */
+/* ---- tables: a table is handed in as its text, or as its entries: span, counts, and arrays of servers and tasks.
+ *
+ * Of the arrays only the entries within the counts are written, and only they are looked at. Counts above GROD_SERVERS and GROD_TASKS may be handed in;
+ * the table then breaks the rules, as it does with a count of 0, a number outside its range or a kind that is none of the stated ones. */
 
-/* Reads a text: its span (the multiple where it is `-`) and how many servers and tasks it has. Refuses 1 to 8. */
-uint32_t grod_read(const uint8_t *text, size_t text_n, uint32_t *line, uint32_t *span, size_t *servers_n, size_t *tasks_n);
+/* Reads a text: its span (the multiple where it is `-`), how many servers and tasks it has, and these. A deadline that is `-` is handed out as the period.
+ * Refuses 1 to 8; a refused reading writes the line alone. */
+uint32_t grod_read(const uint8_t *text, size_t text_n, uint32_t *line, uint32_t *span, size_t *servers_n, size_t *tasks_n,
+                   struct grod_server servers[GROD_SERVERS], struct grod_task tasks[GROD_TASKS]);
+
+/* Writes the text of a table to the front of `out`, span and deadlines always as numbers, and how many bytes it has to `*count`. Reading it gives the
+ * same span, counts and entries. Refuses 13, where the table breaks the rules, then 11, where the text does not fit; GROD_TEXT_MOST bytes are always
+ * enough. */
+uint32_t grod_write(uint32_t span, size_t servers_n, size_t tasks_n, const struct grod_server servers[GROD_SERVERS],
+                    const struct grod_task tasks[GROD_TASKS], uint8_t *out, size_t out_n, size_t *count);
 
 /* Goes one tick on with the machine of a text's table. The state is the tick, each server's budget and each task's waiting work, all 0 before tick 0;
  * it is handed in and, one tick later, handed out. `*holder` is the server that holds the tick, `*runner` the task that runs in it, 0 for none.
@@ -65,21 +114,24 @@ uint32_t grod_read(const uint8_t *text, size_t text_n, uint32_t *line, uint32_t 
 uint32_t grod_step(const uint8_t *text, size_t text_n, uint32_t *tick, uint32_t budgets[GROD_SERVERS], uint32_t waiting[GROD_TASKS], uint32_t *line,
                    uint32_t *holder, uint32_t *runner);
 
+/* The same with a table's entries, so that no text is read at each tick. Refuses 13, also where the table breaks the rules. */
+uint32_t grod_step_table(uint32_t span, size_t servers_n, size_t tasks_n, const struct grod_server servers[GROD_SERVERS],
+                         const struct grod_task tasks[GROD_TASKS], uint32_t *tick, uint32_t budgets[GROD_SERVERS], uint32_t waiting[GROD_TASKS],
+                         uint32_t *holder, uint32_t *runner);
+
 /* Who holds a tick of the span and who runs in it, 0 for none, from the curves. Six work buffers of at least GROD_ROOM numbers are lent; every number of
  * them is 0 after an accepted call. `*holder` and `*runner` stay as they were after a refused one. Refuses 9, 1 to 8, 13. */
 uint32_t grod_who_at(const uint8_t *text, size_t text_n, uint32_t tick, uint32_t *free, size_t free_n, uint32_t *sum, size_t sum_n, uint32_t *part,
                      size_t part_n, uint32_t *held, size_t held_n, uint32_t *running, size_t running_n, uint32_t *spare, size_t spare_n, uint32_t *line,
                      uint32_t *holder, uint32_t *runner);
 
-/* The answers of all servers and tasks. Of server i (from 0): `full[i]` full periods in the span, `short_period[i]` the first of them, from 0, that has
- * fewer free ticks than the capacity, or GROD_NEVER. Of task j (from 0): `outcome[j]`; if it is GROD_WORST, the response, the release of the first job
- * that attains it and the margin, deadline minus response, below 0 when late; if it is GROD_UNFINISHED, the release of the first job that has not ended
- * with the span; else 0. Only the first `*servers_n` entries of `full` and `short_period` and the first `*tasks_n` of the four others are written; the
- * entries behind them stay as they were. Work buffers as for grod_who_at. Refuses 9, 1 to 8. */
+/* The answers of all servers and tasks, in their order. `margin` has that of each task: deadline minus response, below 0 when late, and 0 where the outcome
+ * is not GROD_WORST. Only the first `*servers_n` entries of `servers` and the first `*tasks_n` of `tasks` and `margin` are written; the entries behind them
+ * stay as they were. Work buffers as for grod_who_at. Refuses 9, 1 to 8. */
 uint32_t grod_analyse(const uint8_t *text, size_t text_n, uint32_t *free, size_t free_n, uint32_t *sum, size_t sum_n, uint32_t *part, size_t part_n,
                       uint32_t *held, size_t held_n, uint32_t *running, size_t running_n, uint32_t *spare, size_t spare_n, uint32_t *line, uint32_t *span,
-                      size_t *servers_n, size_t *tasks_n, uint32_t full[GROD_SERVERS], uint32_t short_period[GROD_SERVERS], uint32_t outcome[GROD_TASKS],
-                      uint32_t response[GROD_TASKS], uint32_t release[GROD_TASKS], int32_t margin[GROD_TASKS]);
+                      size_t *servers_n, size_t *tasks_n, struct grod_server_answer servers[GROD_SERVERS], struct grod_task_answer tasks[GROD_TASKS],
+                      int32_t margin[GROD_TASKS]);
 
 /* Writes the report of a text, as the report program prints it, to the front of `out`, and how many bytes it has to `*count`. The report of a refused text
  * is the line `refused`, number, line. Takes some 410,000 bytes of stack; the other calls take less than 32,000. Refuses 11, where the report does not fit. */

@@ -94,7 +94,8 @@ pub fn report(text: &[u8]) -> Vec<u8> {
     }
 }
 
-fn refused(refusal: Refusal) -> String {
+/// The line of a refusal.
+pub fn refused(refusal: Refusal) -> String {
     format!("refused\t{}\t{}\n", refusal.number, refusal.line)
 }
 

@@ -1,9 +1,10 @@
-//! The scope document's checked examples and edges. The wrong build fails some of them.
+//! The scope document's checked examples and edges, and those of writing back. The wrong build fails some of them.
 
 use independent::analysis::{analyse, who_at};
 use independent::curves;
 use independent::reading::read;
 use independent::report::report;
+use independent::writing::{self, Handed};
 use independent::Refusal;
 
 /// A table's text, written with spaces for tabs and `/` for line feeds.
@@ -19,6 +20,12 @@ fn reported(shown: &str) -> String {
 fn refused(shown: &str) -> (u32, u32) {
     let refusal = read(&text(shown)).unwrap_err();
     (refusal.number, refusal.line)
+}
+
+/// The text of a text's table, written back.
+fn rewritten(shown: &str) -> String {
+    let bytes = writing::text(&read(&text(shown)).unwrap());
+    String::from_utf8(bytes).unwrap().replace('\t', " ").replace('\n', "/")
 }
 
 #[test]
@@ -118,4 +125,63 @@ fn order_of_refusals() {
     assert_eq!(analyse(b"", &enough), Err(Refusal::plain(2)));
     assert_eq!(who_at(&table, 8, &enough), Err(Refusal::plain(13)));
     assert!(who_at(&table, 7, &enough).is_ok());
+}
+
+#[test]
+fn written_back() {
+    let table_a = "span -/server deferrable 3 10/server deferrable 2 4/every 1 1 0 4 -/every 2 1 0 5 -/every 2 2 0 8 -/";
+    let expected = "span 40/server deferrable 3 10/server deferrable 2 4/every 1 1 0 4 4/every 2 1 0 5 5/every 2 2 0 8 8/";
+    assert_eq!(rewritten(table_a), expected);
+    assert_eq!(rewritten(expected), expected);
+    let table_b = "span 8/server deferrable 2 5/server deferrable 2 4/once 1 4 3 5/every 2 1 0 4 4/";
+    assert_eq!(rewritten(table_b), table_b);
+}
+
+/// The table with the longest text.
+fn longest() -> Handed {
+    let servers = vec![[1, 16_000, 16_000]; 16];
+    let tasks = vec![[16, 16_000, 2, 16_000, 16_000, 16_000]; 64];
+    Handed { span: 16_000, servers_count: 16, tasks_count: 64, servers, tasks }
+}
+
+#[test]
+fn rooms_of_writing() {
+    let longest = longest();
+    let mut room = [7; 2604];
+    assert_eq!(writing::write(&longest, &mut room[..2602]), Err(Refusal::plain(11)));
+    assert_eq!(room, [7; 2604]);
+    assert_eq!(writing::write(&longest, &mut room), Ok(2603));
+    assert_eq!((room[2602], room[2603]), (b'\n', 7));
+    assert_eq!(read(&room[..2603]), Ok(longest.table().unwrap()));
+}
+
+#[test]
+fn tables_that_break_the_rules() {
+    let good = longest();
+    let refused = |change: &dyn Fn(&mut Handed)| {
+        let mut handed = good.clone();
+        change(&mut handed);
+        writing::write(&handed, &mut []) == Err(Refusal::plain(13))
+    };
+    assert!(!refused(&|_| ()));
+    for span in [0, 16_001] {
+        assert!(refused(&|handed| handed.span = span));
+    }
+    for count in [0, 17, u32::MAX] {
+        assert!(refused(&|handed| handed.servers_count = count));
+    }
+    for count in [0, 65, u32::MAX] {
+        assert!(refused(&|handed| handed.tasks_count = count));
+    }
+    for (place, numbers) in [(0, [0, 3]), (1, [0, 16_001]), (2, [15_999, 16_001])] {
+        assert!(numbers.into_iter().all(|number| refused(&|handed| handed.servers[15][place] = number)));
+    }
+    let outside = [[0, 17], [0, 16_001], [0, 3], [16_001, u32::MAX], [0, 16_001], [0, 16_001]];
+    for (place, numbers) in outside.into_iter().enumerate() {
+        assert!(numbers.into_iter().all(|number| refused(&|handed| handed.tasks[63][place] = number)));
+    }
+    // of `once` the period is not looked at
+    assert!(!refused(&|handed| handed.tasks[63] = [1, 1, 1, 0, 16_001, 1]));
+    // nor is anything beyond the counts
+    assert!(!refused(&|handed| (handed.tasks_count, handed.tasks[63]) = (63, [0; 6])));
 }

@@ -1,4 +1,5 @@
-//! Who runs in every tick of a table of servers and tasks, each task's worst response, and the report: safe calls to a proved library.
+//! Who runs in every tick of a table of servers and tasks, each task's worst response, the report, and the table written back: safe calls to a proved
+//! library.
 //!
 //! Any slice and any number may be handed in. A call answers, or it is refused by a [`Refusal`], and then nothing that was lent has changed.
 //!
@@ -11,14 +12,20 @@
 //! let mut room = grodvejas::Room::new();
 //! let answers = grodvejas::analyse(text, room.lend()).unwrap();
 //! assert_eq!(answers.tasks[0], grodvejas::Response::Worst { response: 4, release: 3, margin: 5 });
+//!
+//! let mut table = grodvejas::read(text).unwrap();
+//! table.servers[0].capacity = 3;
+//! assert_eq!(grodvejas::write(&table).unwrap(), b"span\t8\nserver\tdeferrable\t3\t5\nonce\t1\t4\t3\t9\n");
 //! ```
 
 mod curves;
+mod entries;
 mod raw;
 mod tables;
 
 pub use curves::{add, cut, fit, time_to_provide, Fitted};
-pub use tables::{analyse, read, report, step, who_at, Answers, Extent, Response, Room, ServerAnswer, State, Who};
+pub use entries::{read, step_table, write, write_into, Kind, Release, Server, Table, Task};
+pub use tables::{analyse, report, step, who_at, Answers, Response, Room, ServerAnswer, State, Who};
 
 /// Whether the library is linked in.
 pub const AVAILABLE: bool = cfg!(grodvejas_linked);
@@ -31,6 +38,8 @@ pub const TASKS: usize = 64;
 pub const ROOM: usize = 16_000;
 /// Room for any report: it has at most 2,475 bytes, by proof (`report-short`).
 pub const REPORT: usize = 4096;
+/// Room for any text that [`write_into`] writes: it never has more bytes, by proof (`text-most`).
+pub const TEXT_MOST: usize = 2603;
 
 /// Why a call is refused: the number of the ground, and the line of the text, counted from 1, or 0 where no line is meant.
 #[derive(Clone, Copy, Debug, PartialEq, Eq)]

@@ -1,22 +1,5 @@
-//! Calls on tables. A table is handed in as its text.
-use crate::{accepted, raw, Refusal, ROOM, SERVERS, TASKS};
-
-/// The span of a table in ticks, and how many servers and tasks it has.
-#[derive(Clone, Copy, Debug, Default, PartialEq, Eq)]
-pub struct Extent {
-    pub span: u32,
-    pub servers: usize,
-    pub tasks: usize,
-}
-
-/// Reads a text. Refuses 1 to 8.
-pub fn read(text: &[u8]) -> Result<Extent, Refusal> {
-    let mut line = 0;
-    let mut extent = Extent::default();
-    // SAFETY: the pointer and length are of one slice; what is written is borrowed for this call alone.
-    let number = unsafe { raw::grod_read(text.as_ptr(), text.len(), &mut line, &mut extent.span, &mut extent.servers, &mut extent.tasks) };
-    accepted(number, line, extent)
-}
+//! Calls on tables that are handed in as their texts.
+use crate::{accepted, entries::Extent, raw, Refusal, ROOM, SERVERS, TASKS};
 
 /// The state of the machine: the tick, each server's budget and each task's waiting work. Entries beyond the table's counts are not tested and pass through.
 #[derive(Clone, Copy, Debug, PartialEq, Eq)]
@@ -138,32 +121,29 @@ pub struct Answers {
     pub tasks: Vec<Response>,
 }
 
-/// What the analysis hands out. Only the entries within the counts are written.
+/// What the analysis hands out: rows as the C header's `struct grod_server_answer` and `struct grod_task_answer`, and the margins. Only the entries within
+/// the counts are written.
 struct Handed {
     extent: Extent,
-    full: [u32; SERVERS],
-    short: [u32; SERVERS],
-    outcome: [u32; TASKS],
-    response: [u32; TASKS],
-    release: [u32; TASKS],
+    servers: [[u32; 2]; SERVERS],
+    tasks: [[u32; 3]; TASKS],
     margin: [i32; TASKS],
 }
 
 impl Handed {
     fn new() -> Handed {
-        let (servers, tasks) = ([0; SERVERS], [0; TASKS]);
-        Handed { extent: Extent::default(), full: servers, short: servers, outcome: tasks, response: tasks, release: tasks, margin: [0; TASKS] }
+        Handed { extent: Extent::default(), servers: [[0; 2]; SERVERS], tasks: [[0; 3]; TASKS], margin: [0; TASKS] }
     }
 
     fn server(&self, i: usize) -> ServerAnswer {
-        let short = self.short[i];
-        ServerAnswer { full: self.full[i], short: (short != u32::MAX).then_some(short) }
+        let [full, short] = self.servers[i];
+        ServerAnswer { full, short: (short != u32::MAX).then_some(short) }
     }
 
     fn task(&self, j: usize) -> Response {
-        let release = self.release[j];
-        match self.outcome[j] {
-            1 => Response::Worst { response: self.response[j], release, margin: self.margin[j] },
+        let [outcome, response, release] = self.tasks[j];
+        match outcome {
+            1 => Response::Worst { response, release, margin: self.margin[j] },
             2 => Response::Unfinished { release },
             _ => Response::None,
         }
@@ -183,7 +163,7 @@ pub fn analyse(text: &[u8], work: [&mut [u32]; 6]) -> Result<Answers, Refusal> {
     let [free, sum, part, held, running, spare] = work;
     let mut line = 0;
     let mut handed = Handed::new();
-    // SAFETY: each pointer and length is of one slice; the arrays have 16 and 64 numbers; what is written is borrowed for this call alone.
+    // SAFETY: each pointer and length is of one slice; the arrays have 16 and 64 entries; what is written is borrowed for this call alone.
     let number = unsafe {
         raw::grod_analyse(
             text.as_ptr(),
@@ -204,11 +184,8 @@ pub fn analyse(text: &[u8], work: [&mut [u32]; 6]) -> Result<Answers, Refusal> {
             &mut handed.extent.span,
             &mut handed.extent.servers,
             &mut handed.extent.tasks,
-            handed.full.as_mut_ptr(),
-            handed.short.as_mut_ptr(),
-            handed.outcome.as_mut_ptr(),
-            handed.response.as_mut_ptr(),
-            handed.release.as_mut_ptr(),
+            handed.servers.as_mut_ptr(),
+            handed.tasks.as_mut_ptr(),
             handed.margin.as_mut_ptr(),
         )
     };

@@ -1,5 +1,5 @@
 //! The calls on tables: tables A, B and C of the scope document, and texts that are refused.
-use grodvejas::{analyse, read, report, step, who_at, Extent, Refusal, Response, Room, ServerAnswer, State, Who, REPORT};
+use grodvejas::{analyse, read, report, step, who_at, Refusal, Response, Room, ServerAnswer, State, Who, REPORT};
 
 const A: &[u8] = b"span\t-\nserver\tdeferrable\t3\t10\nserver\tdeferrable\t2\t4\nevery\t1\t1\t0\t4\t-\nevery\t2\t1\t0\t5\t-\nevery\t2\t2\t0\t8\t-\n";
 const B: &[u8] = b"span\t8\nserver\tdeferrable\t2\t5\nserver\tdeferrable\t2\t4\nonce\t1\t4\t3\t5\nevery\t2\t1\t0\t4\t4\n";
@@ -56,16 +56,10 @@ fn unfinished_and_none() {
 
 #[test]
 #[cfg_attr(not(grodvejas_linked), ignore = "the library is not linked in")]
-fn reading() {
-    assert_eq!(read(A), Ok(Extent { span: 40, servers: 2, tasks: 3 }));
-    assert_eq!(read(b""), refused(2, 0));
-    assert_eq!(read(ZERO_LEADS), refused(5, 2));
-}
-
-#[test]
-#[cfg_attr(not(grodvejas_linked), ignore = "the library is not linked in")]
 fn refused_text() {
     let mut room = Room::new();
+    assert_eq!(read(b""), refused(2, 0));
+    assert_eq!(read(ZERO_LEADS), refused(5, 2));
     assert_eq!(analyse(ZERO_LEADS, room.lend()), refused(5, 2));
     assert_eq!(who_at(ZERO_LEADS, 0, room.lend()), refused(5, 2));
     assert_eq!(step(ZERO_LEADS, &mut State::default()), refused(5, 2));

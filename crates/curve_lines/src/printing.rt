@@ -3,22 +3,15 @@ use crate::reading::MOST;
 use batch::put_byte;
 use batch::put_number;
 use batch::put_word;
+use call_lines::put_refused;
 use curves::Fitted;
 use curves::Provided;
-use refusals::Refusal;
 use refusals::Written;
 ghost use Prim.Native.Nat.{_≤_};
 
-// Puts a space and a number of a curve or of a refusal.
+// Puts a space and a number of a curve.
 fn put_value(out: &mut [u8; 65536], n: usize, value: u32) -> usize {
     put_number(out, n, value as u64)
-}
-
-// Puts a refusal: its number and its line.
-fn put_refusal(out: &mut [u8; 65536], n: usize, refusal: Refusal) -> usize {
-    let mut m = put_word(out, n, b"refused");
-    m = put_value(out, m, refusal.number);
-    put_value(out, m, refusal.line)
 }
 
 // Puts a bar and every number of a lent buffer, the first `room` of an array.
@@ -44,13 +37,7 @@ pub fn put_written(
 ) -> usize
     requires { ⌜ room ≤ 4096 ⌝ }
 {
-    let mut m = match answer {
-        Written::Count(count) => {
-            let m = put_word(out, n, b"count");
-            put_number(out, m, count as u64)
-        }
-        Written::Refused(refusal) => put_refusal(out, n, refusal),
-    };
+    let mut m = call_lines::put_written(out, n, answer);
     m = put_lent(out, m, lent, room);
     put_byte(out, m, b'\n')
 }
@@ -64,7 +51,7 @@ fn put_counts(out: &mut [u8; 65536], n: usize, answer: Fitted) -> usize {
             m = put_number(out, m, served as u64);
             put_number(out, m, rest as u64)
         }
-        Fitted::Refused(refusal) => put_refusal(out, n, refusal),
+        Fitted::Refused(refusal) => put_refused(out, n, refusal),
     }
 }
 
@@ -97,7 +84,7 @@ pub fn put_provided(out: &mut [u8; 65536], n: usize, answer: Provided) -> usize 
             put_value(out, m, t)
         }
         Provided::NotProvided => put_word(out, n, b"not provided"),
-        Provided::Refused(refusal) => put_refusal(out, n, refusal),
+        Provided::Refused(refusal) => put_refused(out, n, refusal),
     };
     put_byte(out, m, b'\n')
 }

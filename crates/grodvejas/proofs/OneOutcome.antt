@@ -3,20 +3,20 @@
 use Prim.Native.Nat.{ℕ}
 use mathlib.Core.Path.{_≡_, sym, ap, _∙_}
 use mathlib.Core.List.{List}
+use Rattle.refusals.specs.Outcomes.{Outcome}
 use Rattle.machine.specs.declared.State.{State}
+use Rattle.machine.specs.declared.Stepped.{Stepped}
 use Rattle.scheduling.proofs.Outcomes.{Same, same-all}
-use Rattle.handing.specs.Handing.{given}
-use Rattle.grodvejas.specs.Calls.{Adds, Cuts, Fits, Provides, Reads, Steps, Tells, Counted, Listed, Analyses, Reports}
+use Rattle.handing.specs.Handing.{given, HandsStep, Counted, Listed}
+use Rattle.grodvejas.specs.Calls.{Wrote, Fits, Provides, Reads, Steps, Tells, Analyses}
 
--- ---- curve calls and the report
+-- ---- the calls that write one result: adding, cutting, the report and a table's text
 
-pub adds-once : (a b out : List ℕ) (count : ℕ) {r q n m : ℕ} {x y : List ℕ} → Adds a b out count r n x → Adds a b out count q m y
-    → (r ≡ q) × (n ≡ m) × (x ≡ y)
-adds-once a b out count p o = (p .number ∙ sym (o .number), p .counted ∙ sym (o .counted), p .buffer ∙ sym (o .buffer))
+pub wrote-once : {outcome : Outcome ℕ} {result old : List ℕ} {count r q n m : ℕ} {x y : List ℕ} → Wrote outcome result old count r n x
+    → Wrote outcome result old count q m y → (r ≡ q) × (n ≡ m) × (x ≡ y)
+wrote-once p o = (p .number ∙ sym (o .number), p .counted ∙ sym (o .counted), p .buffer ∙ sym (o .buffer))
 
-pub cuts-once : (curve : List ℕ) (period : ℕ) (out : List ℕ) (count : ℕ) {r q n m : ℕ} {x y : List ℕ} → Cuts curve period out count r n x
-    → Cuts curve period out count q m y → (r ≡ q) × (n ≡ m) × (x ≡ y)
-cuts-once curve period out count p o = (p .number ∙ sym (o .number), p .counted ∙ sym (o .counted), p .buffer ∙ sym (o .buffer))
+-- ---- the other calls on curves
 
 pub fits-once : (demand supply left served rest : List ℕ) (l s d : ℕ) {r q l₁ s₁ d₁ l₂ s₂ d₂ : ℕ} {x₁ y₁ z₁ x₂ y₂ z₂ : List ℕ}
     → Fits demand supply left served rest l s d r l₁ s₁ d₁ x₁ y₁ z₁ → Fits demand supply left served rest l s d q l₂ s₂ d₂ x₂ y₂ z₂
@@ -35,33 +35,37 @@ pub provides-once : (curve : List ℕ) (amount instant : ℕ) {r q n m : ℕ} �
     → (r ≡ q) × (n ≡ m)
 provides-once curve amount instant p o = (p .number ∙ sym (o .number), p .reached ∙ sym (o .reached))
 
-pub reports-once : (text out : List ℕ) (count : ℕ) {r q n m : ℕ} {x y : List ℕ} → Reports text out count r n x → Reports text out count q m y
-    → (r ≡ q) × (n ≡ m) × (x ≡ y)
-reports-once text out count p o = (p .number ∙ sym (o .number), p .counted ∙ sym (o .counted), p .buffer ∙ sym (o .buffer))
-
--- ---- calls on a text
+-- ---- calls on a table
 
 -- equal numbers hand out the same
 given-once : {A : Type 0} (new old : A) {x y : A} {r q : ℕ} → r ≡ q → x ≡ given r new old → y ≡ given q new old → x ≡ y
 given-once new old e p o = p ∙ ap (λ n. given n new old) e ∙ sym o
 
-pub reads-once : (text : List ℕ) (span servers tasks : ℕ) {r line₁ span₁ servers₁ tasks₁ q line₂ span₂ servers₂ tasks₂ : ℕ}
-    → Reads text span servers tasks r line₁ span₁ servers₁ tasks₁ → Reads text span servers tasks q line₂ span₂ servers₂ tasks₂
-    → (r ≡ q) × (line₁ ≡ line₂) × (span₁ ≡ span₂) × (servers₁ ≡ servers₂) × (tasks₁ ≡ tasks₂)
-reads-once text span servers tasks p o =
+pub reads-once : (text : List ℕ) (n : Counted) (servers tasks : List ℕ) {r line₁ q line₂ : ℕ} {n₁ n₂ : Counted} {servers₁ tasks₁ servers₂ tasks₂ : List ℕ}
+    → Reads text n servers tasks r line₁ n₁ servers₁ tasks₁ → Reads text n servers tasks q line₂ n₂ servers₂ tasks₂
+    → (r ≡ q) × (line₁ ≡ line₂) × (n₁ ≡ n₂) × (servers₁ ≡ servers₂) × (tasks₁ ≡ tasks₂)
+reads-once text n servers tasks p o =
     let e = p .number ∙ sym (o .number) in (
       e,
       p .in-line ∙ sym (o .in-line),
-      given-once _ _ e (p .ticks) (o .ticks),
-      given-once _ _ e (p .servers-count) (o .servers-count),
-      given-once _ _ e (p .tasks-count) (o .tasks-count),
+      λ i. record {
+        span = given-once _ _ e (p .ticks) (o .ticks) i;
+        servers = given-once _ _ e (p .servers-count) (o .servers-count) i;
+        tasks = given-once _ _ e (p .tasks-count) (o .tasks-count) i;
+      },
+      given-once _ _ e (p .servers-are) (o .servers-are),
+      given-once _ _ e (p .tasks-are) (o .tasks-are),
     )
+
+-- of a table that is given by its rows
+pub step-once : {stepped : Stepped} {r holder₁ runner₁ q holder₂ runner₂ : ℕ} {after₁ after₂ : State} → HandsStep stepped r after₁ holder₁ runner₁
+    → HandsStep stepped q after₂ holder₂ runner₂ → (r ≡ q) × (after₁ ≡ after₂) × (holder₁ ≡ holder₂) × (runner₁ ≡ runner₂)
+step-once p o = (p .number ∙ sym (o .number), p .next ∙ sym (o .next), p .holds ∙ sym (o .holds), p .runs ∙ sym (o .runs))
 
 pub steps-once : (text : List ℕ) (before : State) {r line₁ holder₁ runner₁ q line₂ holder₂ runner₂ : ℕ} {after₁ after₂ : State}
     → Steps text before r line₁ after₁ holder₁ runner₁ → Steps text before q line₂ after₂ holder₂ runner₂
-    → (r ≡ q) × (line₁ ≡ line₂) × (after₁ ≡ after₂) × (holder₁ ≡ holder₂) × (runner₁ ≡ runner₂)
-steps-once text before p o =
-    (p .number ∙ sym (o .number), p .in-line ∙ sym (o .in-line), p .next ∙ sym (o .next), p .holds ∙ sym (o .holds), p .runs ∙ sym (o .runs))
+    → (line₁ ≡ line₂) × ((r ≡ q) × (after₁ ≡ after₂) × (holder₁ ≡ holder₂) × (runner₁ ≡ runner₂))
+steps-once text before p o = (p .in-line ∙ sym (o .in-line), step-once (p .step) (o .step))
 
 -- ---- calls on a text and six work buffers
 
@@ -82,20 +86,17 @@ module _ (text a b c d e f : List ℕ) {a₁ b₁ c₁ d₁ e₁ f₁ a₂ b₂ 
       → Analyses text a b c d e f n l r line₁ n₁ l₁ a₁ b₁ c₁ d₁ e₁ f₁ → Analyses text a b c d e f n l q line₂ n₂ l₂ a₂ b₂ c₂ d₂ e₂ f₂
       → Same r q a₁ b₁ c₁ d₁ e₁ f₁ a₂ b₂ c₂ d₂ e₂ f₂ × (line₁ ≡ line₂) × (n₁ ≡ n₂) × (l₁ ≡ l₂)
   analyses-once n l p o =
-      let same = p .number ∙ sym (o .number) in (
+      let same = p .answers .number ∙ sym (o .answers .number) in (
         same-all (λ (k : ℕ). k) same (p .buffers) (o .buffers),
-        p .in-line ∙ sym (o .in-line),
+        p .answers .in-line ∙ sym (o .answers .in-line),
         λ i. record {
-          span = given-once _ _ same (p .ticks) (o .ticks) i;
-          servers = given-once _ _ same (p .servers-count) (o .servers-count) i;
-          tasks = given-once _ _ same (p .tasks-count) (o .tasks-count) i;
+          span = given-once _ _ same (p .answers .ticks) (o .answers .ticks) i;
+          servers = given-once _ _ same (p .answers .servers-count) (o .answers .servers-count) i;
+          tasks = given-once _ _ same (p .answers .tasks-count) (o .answers .tasks-count) i;
         },
         λ i. record {
-          full = given-once _ _ same (p .fulls-are) (o .fulls-are) i;
-          short = given-once _ _ same (p .shorts-are) (o .shorts-are) i;
-          outcome = given-once _ _ same (p .outcomes-are) (o .outcomes-are) i;
-          response = given-once _ _ same (p .responses-are) (o .responses-are) i;
-          release = given-once _ _ same (p .releases-are) (o .releases-are) i;
-          margin = given-once _ _ same (p .margins-are) (o .margins-are) i;
+          servers = given-once _ _ same (p .answers .servers-are) (o .answers .servers-are) i;
+          tasks = given-once _ _ same (p .answers .tasks-are) (o .answers .tasks-are) i;
+          margin = given-once _ _ same (p .answers .margins-are) (o .answers .margins-are) i;
         },
       )

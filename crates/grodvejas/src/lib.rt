@@ -1,5 +1,6 @@
 // The library's calls for programs in C: numbers, slices (a pointer and a length), and places to write to. Each answers 0, or the number of its
 // refusal; what it hands out is then left as it was, but for the line, and but for a refused step, which hands out 0 for holder and runner.
+use entries::table_from;
 use handing::answered::hand_analysis;
 use handing::answered::hand_who;
 use handing::outcomes::hand_count;
@@ -10,7 +11,7 @@ use handing::tables::hand_refusal;
 use handing::tables::hand_table;
 use handing::tables::step_table;
 use reading::Answer;
-ghost use Rattle.grodvejas.specs.Calls.{Adds, Cuts, Fits, Provides, Reads, Steps, Tells, Analyses, Reports};
+ghost use Rattle.grodvejas.specs.Calls.{Adds, Cuts, Fits, Provides, Reads, Writes, Steps, StepsTable, Tells, Analyses, Reports};
 
 // Adds up two curves into a buffer, and hands out how many numbers were written.
 #[no_mangle]
@@ -59,7 +60,8 @@ pub extern "C" fn grod_time_to_provide(curve: &[u32], amount: u32, instant: &mut
     hand_instant(provided, instant)
 }
 
-// Reads a table's text, and hands out its span and how many servers and tasks it has.
+// Reads a table's text, and hands out its span, how many servers and tasks it has, and a row of numbers for each: of the arrays the rows within the
+// counts, and no others.
 #[no_mangle]
 pub extern "C" fn grod_read(
     text: &[u8],
@@ -67,17 +69,39 @@ pub extern "C" fn grod_read(
     span: &mut u32,
     servers_n: &mut usize,
     tasks_n: &mut usize,
+    servers: &mut [u32; 48],
+    tasks: &mut [u32; 384],
 ) -> u32
-    ensures { λ r. ⌜ Reads (now (text .entry)) (now (span .entry)) (now («servers_n» .entry)) (now («tasks_n» .entry)) r (now (line .exit)) (now (span .exit))
-        (now («servers_n» .exit)) (now («tasks_n» .exit)) ⌝ }
+    ensures { λ r. ⌜ Reads (now (text .entry)) (record { span = now (span .entry); servers = now («servers_n» .entry); tasks = now («tasks_n» .entry) })
+        (now (servers .entry)) (now (tasks .entry)) r (now (line .exit))
+        (record { span = now (span .exit); servers = now («servers_n» .exit); tasks = now («tasks_n» .exit) }) (now (servers .exit)) (now (tasks .exit)) ⌝ }
 {
     let read = reading::read(text);
     let answer = read.answer;
     let table = read.table;
     match answer {
-        Answer::Accepted => hand_table(table, line, span, servers_n, tasks_n),
+        Answer::Accepted => hand_table(table, line, span, servers_n, tasks_n, servers, tasks),
         Answer::Refused(refusal) => hand_refusal(refusal, line),
     }
+}
+
+// Writes the text of a table, given by its span, its counts and its rows, to the front of a buffer, and hands out how many bytes it has.
+#[no_mangle]
+pub extern "C" fn grod_write(
+    span: u32,
+    servers_n: usize,
+    tasks_n: usize,
+    servers: &[u32; 48],
+    tasks: &[u32; 384],
+    out: &mut [u8],
+    count: &mut usize,
+) -> u32
+    ensures { λ r. ⌜ Writes (record { span = span; servers = «servers_n»; tasks = «tasks_n» }) (now (servers .entry)) (now (tasks .entry)) (now (out .entry))
+        (now (count .entry)) r (now (count .exit)) (now (out .exit)) ⌝ }
+{
+    let table = table_from(span, servers_n, tasks_n, servers, tasks);
+    let written = writing::write(table, out);
+    hand_count(written, count)
 }
 
 // Goes one tick on with the machine of a text's table: the state is handed in and out, and who holds the tick and who runs in it is handed out. A refused
@@ -99,9 +123,34 @@ pub extern "C" fn grod_step(
     let answer = read.answer;
     let table = read.table;
     match answer {
-        Answer::Accepted => step_table(table, tick, budgets, waiting, line, holder, runner),
+        Answer::Accepted => {
+            *line = 0;
+            step_table(table, tick, budgets, waiting, holder, runner)
+        }
         Answer::Refused(refusal) => hand_no_step(refusal, line, holder, runner),
     }
+}
+
+// The same with the machine of a table that is given by its span, its counts and its rows. No text is read, so that there is no line.
+#[no_mangle]
+pub extern "C" fn grod_step_table(
+    span: u32,
+    servers_n: usize,
+    tasks_n: usize,
+    servers: &[u32; 48],
+    tasks: &[u32; 384],
+    tick: &mut u32,
+    budgets: &mut [u32; 16],
+    waiting: &mut [u32; 64],
+    holder: &mut u32,
+    runner: &mut u32,
+) -> u32
+    ensures { λ r. ⌜ StepsTable (record { span = span; servers = «servers_n»; tasks = «tasks_n» }) (now (servers .entry)) (now (tasks .entry))
+        (record { tick = now (tick .entry); budgets = now (budgets .entry); waiting = now (waiting .entry) })
+        r (record { tick = now (tick .exit); budgets = now (budgets .exit); waiting = now (waiting .exit) }) (now (holder .exit)) (now (runner .exit)) ⌝ }
+{
+    let given = table_from(span, servers_n, tasks_n, servers, tasks);
+    step_table(given, tick, budgets, waiting, holder, runner)
 }
 
 // Hands out who holds a tick of a text's table and who runs in it, read from the curves.
@@ -127,7 +176,7 @@ pub extern "C" fn grod_who_at(
     hand_who(who, line, holder, runner)
 }
 
-// Hands out the answers of all servers and tasks of a text's table: of the arrays the entries within the counts, and no others.
+// Hands out the answers of all servers and tasks of a text's table, a row of numbers for each: of the arrays the rows within the counts, and no others.
 #[no_mangle]
 pub extern "C" fn grod_analyse(
     text: &[u8],
@@ -141,32 +190,15 @@ pub extern "C" fn grod_analyse(
     span: &mut u32,
     servers_n: &mut usize,
     tasks_n: &mut usize,
-    full: &mut [u32; 16],
-    short: &mut [u32; 16],
-    outcome: &mut [u32; 64],
-    response: &mut [u32; 64],
-    release: &mut [u32; 64],
+    servers: &mut [u32; 32],
+    tasks: &mut [u32; 192],
     margin: &mut [i32; 64],
 ) -> u32
     ensures { λ r. ⌜ Analyses (now (text .entry)) (now (free .entry)) (now (sum .entry)) (now (part .entry)) (now (held .entry)) (now (running .entry))
         (now (spare .entry)) (record { span = now (span .entry); servers = now («servers_n» .entry); tasks = now («tasks_n» .entry) })
-        (record {
-          full = now (full .entry);
-          short = now (short .entry);
-          outcome = now (outcome .entry);
-          response = now (response .entry);
-          release = now (release .entry);
-          margin = now (margin .entry);
-        }) r (now (line .exit))
+        (record { servers = now (servers .entry); tasks = now (tasks .entry); margin = now (margin .entry) }) r (now (line .exit))
         (record { span = now (span .exit); servers = now («servers_n» .exit); tasks = now («tasks_n» .exit) })
-        (record {
-          full = now (full .exit);
-          short = now (short .exit);
-          outcome = now (outcome .exit);
-          response = now (response .exit);
-          release = now (release .exit);
-          margin = now (margin .exit);
-        }) (now (free .exit))
+        (record { servers = now (servers .exit); tasks = now (tasks .exit); margin = now (margin .exit) }) (now (free .exit))
         (now (sum .exit)) (now (part .exit)) (now (held .exit)) (now (running .exit)) (now (spare .exit)) ⌝ }
 {
     let analysis = scheduling::analyse(text, free, sum, part, held, running, spare);
@@ -176,11 +208,8 @@ pub extern "C" fn grod_analyse(
         span,
         servers_n,
         tasks_n,
-        full,
-        short,
-        outcome,
-        response,
-        release,
+        servers,
+        tasks,
         margin,
     )
 }

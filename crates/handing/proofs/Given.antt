@@ -25,3 +25,11 @@ refused-stays table s d = go (accepts table s) refl
     go : (b : Bool) → accepts table s ≡ b → s ≡ stepOf table s .next
     go true e = absurd (d (ap (λ (t : Stepped). t .refusal .number) (step-accepted table s e)))
     go false e = sym (ap (λ (t : Stepped). t .next) (step-refused table s e))
+
+-- a step is refused for no line of a text
+pub step-no-line : (table : Table) (s : State) → stepOf table s .refusal .line ≡ 0
+step-no-line table s = go (accepts table s) refl
+  where
+    go : (b : Bool) → accepts table s ≡ b → stepOf table s .refusal .line ≡ 0
+    go true e = ap (λ (t : Stepped). t .refusal .line) (step-accepted table s e)
+    go false e = ap (λ (t : Stepped). t .refusal .line) (step-refused table s e)

@@ -9,7 +9,8 @@ use lib.IntN.{ℤ, pos}
 use lib.ListN.{take, drop}
 use Rattle.basics.specs.Choice.{pick}
 use Rattle.windows.specs.Windows.{Instant, at, notProvided}
-use Rattle.refusals.specs.Outcomes.{Outcome, refused, answer}
+use Rattle.refusals.specs.Outcomes.{Outcome, refused, answer, front}
+use Rattle.entries.specs.Entries.{rows}
 use Rattle.table.specs.declared.Table.{Table}
 use Rattle.reading.specs.Reading.{readingOf}
 use Rattle.reading.specs.declared.Answer.{Answer}
@@ -17,6 +18,7 @@ use Rattle.reading.specs.declared.Answer.the-variants.{Accepted, Refused}
 use Rattle.machine.specs.Machine.{stepOf}
 use Rattle.machine.specs.declared.State.{State}
 use Rattle.machine.specs.declared.Stepped.{Stepped}
+use Rattle.answers.specs.declared.Analysis.{Analysis}
 use Rattle.answers.specs.declared.Response.{Response}
 use Rattle.answers.specs.declared.Response.the-variants.{Worst, Unfinished, None}
 use Rattle.answers.specs.declared.Short.{Short}
@@ -62,6 +64,13 @@ stepBy (Refused refusal) table state = record { refusal = refusal; next = state;
 abbrev pub stepFor : List ℕ → State → Stepped
 stepFor text state = stepBy (readingOf text .answer) (readingOf text .table) state
 
+-- by what a step answers: the number, the state as it is handed back, holder and runner
+pub record HandsStep (stepped : Stepped) (r : ℕ) (after : State) (holder′ runner′ : ℕ) : Type 0 where
+  pub number : r ≡ stepped .refusal .number
+  pub next : after ≡ stepped .next
+  pub holds : holder′ ≡ stepped .holder
+  pub runs : runner′ ≡ stepped .runner
+
 -- ---- answers as numbers
 
 -- 4,294,967,295 for none
@@ -101,21 +110,45 @@ each f (a ∷ l) = f a ∷ each f l
 abbrev pub inFront : {A B : Type 0} → (A → B) → ℕ → List A → List B → List B
 inFront f n l old = each f (take n l) ++ drop n old
 
--- the arrays of an analysis afterwards: by the count, the answers and what was there before
-abbrev pub fulls : ℕ → List ServerAnswer → List ℕ → List ℕ
-fulls = inFront (λ (a : ServerAnswer). a .full)
+-- ---- the arrays of an analysis
 
-abbrev pub shorts : ℕ → List ServerAnswer → List ℕ → List ℕ
-shorts = inFront (λ (a : ServerAnswer). shortNumber (a .short))
+-- a server's row: its full periods, the first short one
+abbrev pub serverAnswerRow : ServerAnswer → List ℕ
+serverAnswerRow a = a .full ∷ (shortNumber (a .short) ∷ [])
 
-abbrev pub outcomes : ℕ → List TaskAnswer → List ℕ → List ℕ
-outcomes = inFront (λ (a : TaskAnswer). outcomeNumber (a .response))
+-- a task's row: what is said of it, the response, the release
+abbrev pub taskAnswerRow : TaskAnswer → List ℕ
+taskAnswerRow a = outcomeNumber (a .response) ∷ (responseNumber (a .response) ∷ (releaseNumber (a .response) ∷ []))
 
-abbrev pub responses : ℕ → List TaskAnswer → List ℕ → List ℕ
-responses = inFront (λ (a : TaskAnswer). responseNumber (a .response))
+-- the arrays afterwards: by the count, the answers and what was there before
+abbrev pub serverAnswers : ℕ → List ServerAnswer → List ℕ → List ℕ
+serverAnswers n l old = front (rows serverAnswerRow (take n l)) old
 
-abbrev pub releases : ℕ → List TaskAnswer → List ℕ → List ℕ
-releases = inFront (λ (a : TaskAnswer). releaseNumber (a .response))
+abbrev pub taskAnswers : ℕ → List TaskAnswer → List ℕ → List ℕ
+taskAnswers n l old = front (rows taskAnswerRow (take n l)) old
 
 abbrev pub margins : ℕ → List TaskAnswer → List ℤ → List ℤ
 margins = inFront (λ (a : TaskAnswer). marginNumber (a .response))
+
+-- a table's span and counts
+pub record Counted : Type 0 where
+  pub span : ℕ
+  pub servers : ℕ
+  pub tasks : ℕ
+
+-- what is handed out of the answers
+pub record Listed : Type 0 where
+  pub servers : List ℕ
+  pub tasks : List ℕ
+  pub margin : List ℤ
+
+-- by an analysis: of each array the rows within the count are handed out, and the rest is as it was
+pub record HandsAnalysis (a : Analysis) (n : Counted) (l : Listed) (r line′ : ℕ) (n′ : Counted) (l′ : Listed) : Type 0 where
+  pub number : r ≡ a .refusal .number
+  pub in-line : line′ ≡ a .refusal .line
+  pub ticks : n′ .span ≡ given r (a .span) (n .span)
+  pub servers-count : n′ .servers ≡ given r (a .«servers_n») (n .servers)
+  pub tasks-count : n′ .tasks ≡ given r (a .«tasks_n») (n .tasks)
+  pub servers-are : l′ .servers ≡ given r (serverAnswers (a .«servers_n») (a .servers) (l .servers)) (l .servers)
+  pub tasks-are : l′ .tasks ≡ given r (taskAnswers (a .«tasks_n») (a .tasks) (l .tasks)) (l .tasks)
+  pub margins-are : l′ .margin ≡ given r (margins (a .«tasks_n») (a .tasks) (l .margin)) (l .margin)

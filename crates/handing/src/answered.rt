@@ -1,11 +1,12 @@
 // What the two calls on a text and six work buffers hand out.
+use crate::listing::list_margins;
 use crate::listing::list_servers;
 use crate::listing::list_tasks;
 use answers::Analysis;
 use scheduling::Who;
 ghost use mathlib.Core.Path.{_≡_};
 ghost use Prim.Native.Nat.{_≤_};
-ghost use Rattle.handing.specs.Handing.{given, fulls, shorts, outcomes, responses, releases, margins};
+ghost use Rattle.handing.specs.Handing.{given, HandsAnalysis};
 
 // Hands out who holds a tick and who runs in it.
 pub fn hand_who(who: Who, line: &mut u32, holder: &mut u32, runner: &mut u32) -> u32
@@ -29,24 +30,15 @@ pub fn hand_analysis(
     span: &mut u32,
     servers_n: &mut usize,
     tasks_n: &mut usize,
-    full: &mut [u32; 16],
-    short: &mut [u32; 16],
-    outcome: &mut [u32; 64],
-    response: &mut [u32; 64],
-    release: &mut [u32; 64],
+    servers: &mut [u32; 32],
+    tasks: &mut [u32; 192],
     margin: &mut [i32; 64],
 ) -> u32
     requires { ⌜ (analysis .«servers_n» ≤ 16) × (analysis .«tasks_n» ≤ 64) ⌝ }
-    ensures { λ r. ⌜ (r ≡ analysis .refusal .number) × (now (line .exit) ≡ analysis .refusal .line)
-        × (now (span .exit) ≡ given r (analysis .span) (now (span .entry)))
-        × (now («servers_n» .exit) ≡ given r (analysis .«servers_n») (now («servers_n» .entry)))
-        × (now («tasks_n» .exit) ≡ given r (analysis .«tasks_n») (now («tasks_n» .entry)))
-        × (now (full .exit) ≡ given r (fulls (analysis .«servers_n») (analysis .servers) (now (full .entry))) (now (full .entry)))
-        × (now (short .exit) ≡ given r (shorts (analysis .«servers_n») (analysis .servers) (now (short .entry))) (now (short .entry)))
-        × (now (outcome .exit) ≡ given r (outcomes (analysis .«tasks_n») (analysis .tasks) (now (outcome .entry))) (now (outcome .entry)))
-        × (now (response .exit) ≡ given r (responses (analysis .«tasks_n») (analysis .tasks) (now (response .entry))) (now (response .entry)))
-        × (now (release .exit) ≡ given r (releases (analysis .«tasks_n») (analysis .tasks) (now (release .entry))) (now (release .entry)))
-        × (now (margin .exit) ≡ given r (margins (analysis .«tasks_n») (analysis .tasks) (now (margin .entry))) (now (margin .entry))) ⌝ }
+    ensures { λ r. ⌜ HandsAnalysis analysis (record { span = now (span .entry); servers = now («servers_n» .entry); tasks = now («tasks_n» .entry) })
+        (record { servers = now (servers .entry); tasks = now (tasks .entry); margin = now (margin .entry) }) r (now (line .exit))
+        (record { span = now (span .exit); servers = now («servers_n» .exit); tasks = now («tasks_n» .exit) })
+        (record { servers = now (servers .exit); tasks = now (tasks .exit); margin = now (margin .exit) }) ⌝ }
 {
     let refusal = analysis.refusal;
     *line = refusal.line;
@@ -56,9 +48,10 @@ pub fn hand_analysis(
     *span = analysis.span;
     *servers_n = analysis.servers_n;
     *tasks_n = analysis.tasks_n;
-    let servers = analysis.servers;
-    let tasks = analysis.tasks;
-    list_servers(servers, analysis.servers_n, full, short);
-    list_tasks(tasks, analysis.tasks_n, outcome, response, release, margin);
+    let of_servers = analysis.servers;
+    let of_tasks = analysis.tasks;
+    list_servers(of_servers, analysis.servers_n, servers);
+    list_tasks(of_tasks, analysis.tasks_n, tasks);
+    list_margins(of_tasks, analysis.tasks_n, margin);
     0
 }

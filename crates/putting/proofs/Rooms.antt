@@ -8,14 +8,15 @@ use lib.ListN.{length, drop, length-append}
 use lib.Dec.{leb}
 use borrow.Author.Tests.{le-leb, lt-leb}
 use Rattle.basics.specs.Choice.{pick}
-use Rattle.refusals.specs.Outcomes.{Outcome, answer, refused, lent, Leaves}
+use Rattle.refusals.specs.Outcomes.{Outcome, answer, refused, front, lent, Leaves}
 use Rattle.refusals.specs.Refusals.{refusedFor}
 use Rattle.refusals.specs.declared.Ground.the-variants.{NoRoom}
 use Rattle.refusals.specs.declared.Refusal.{Refusal}
 use Rattle.refusals.specs.declared.Written.{Written}
 use Rattle.refusals.specs.declared.Written.the-variants.{Count, Refused}
 use Rattle.refusals.proofs.Outcomes.{written-once}
-use Rattle.putting.specs.Puts.{Put, inRoom}
+use Rattle.putting.specs.Puts.{Put}
+use Rattle.putting.specs.Rooms.{inRoom}
 
 module _ (bytes out : List ℕ) where
   pub room-refused : length out < length bytes → Leaves (inRoom bytes out) bytes out (Refused (refusedFor NoRoom)) out
@@ -52,8 +53,16 @@ module _ (bytes out : List ℕ) where
         let fits : leb (length bytes) (length out) ≡ true = le-leb (length bytes) (length out) room in
         written-once r (Count (length bytes)) (p .answer-is ∙ rw fits)
 
+    -- and stand at the front
+    pub room-front : after ≡ front bytes out
+    room-front = let fits : leb (length bytes) (length out) ≡ true = le-leb (length bytes) (length out) room in rw fits at (p .buffer)
+
     pub room-not-refused : (refusal : Refusal) → r ≡ Refused refusal → ⊥
     room-not-refused refusal e =
         let c = room-counted in
         let z : _≡_ {A = ℕ} 0 1 = cc in
         omega arith
+
+  -- bytes that are put where there is room stand at the front
+  pub put-front : {after : List ℕ} {r : ℕ} → length bytes ≤ length out → Put out after 0 bytes r → after ≡ front bytes out
+  put-front h w = room-front h (room-written h w)

@@ -5,7 +5,7 @@ use mathlib.Core.Bool.{true}
 use Rattle.refusals.specs.Outcomes.{Outcome, Leaves}
 use Rattle.refusals.specs.declared.Written.{Written}
 use Rattle.scheduling.specs.Analysing.{analysisOf}
-use Rattle.putting.specs.Puts.{inRoom}
+use Rattle.putting.specs.Rooms.{inRoom}
 use Rattle.printing.specs.Report.{reportOf}
 
 -- the report of a text: the call has work buffers of its own, with room enough

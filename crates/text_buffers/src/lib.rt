@@ -5,11 +5,11 @@ mod lending;
 use batch::put_byte;
 use batch::put_number;
 use batch::put_word;
+use call_lines::put_refused;
 use lending::Said;
 use lending::Seen;
 use lending::lend;
 use text_lines::asking::Rooms;
-use text_lines::put_refused;
 ghost use Rattle.text_lines.specs.Fits.{Lendable};
 
 // A call on six lent buffers: the analysis, or who holds a tick.

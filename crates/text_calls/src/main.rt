@@ -12,6 +12,7 @@
 //                                  `refused number line`, and behind ` |` for each buffer `zero` where all of it is 0 and the guard behind it as it
 //                                  was, `same` where both are, `other` elsewhere. Number i was 7,000,000 + i, of 16,016 with the guard
 //     7 tick a b c d e f HEX       who holds a tick, from the curves: `who holder runner` or `refused number line`, and the same for each buffer
+//     8 HEX                        the table written back, with a number for every `-`, or `refused`, number and line, parted by tabs; then an empty line
 // A line that starts with `#` is copied, and a line of any other form is answered by `bad`; so is every line of more than 1,048,576 bytes, its
 // line feed counted. The input may have any length, and its last line needs no line feed.
 use batch::INPUT;
@@ -28,6 +29,7 @@ use text_lines::asking::read_line;
 use text_lines::tables::put_reading;
 use text_reports::reports::put_machine_report;
 use text_reports::reports::put_report;
+use text_reports::reports::put_rewritten;
 use text_reports::reports::put_with_room;
 use text_reports::ticks::put_ticks;
 ghost use Prim.Native.Nat.{_<_};
@@ -51,6 +53,7 @@ fn answer(asked: Asked, out: &mut [u8; 65536], n: usize) -> usize
         5 => put_with_room(out, n, text, asked.first as usize),
         6 => put_call(out, n, Call::Analyse, text, rooms),
         7 => put_call(out, n, Call::WhoAt(asked.first), text, rooms),
+        8 => put_rewritten(out, n, text),
         _ => put_bad(out, n),
     }
 }

@@ -1,8 +1,8 @@
 // Kind 3: what reading answers to a text, on one line.
-use crate::put_refused;
 use batch::put_byte;
 use batch::put_number;
 use batch::put_word;
+use call_lines::put_refused;
 use reading::Answer;
 use refusals::Refusal;
 use table::Kind;

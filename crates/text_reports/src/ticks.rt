@@ -2,12 +2,12 @@
 use batch::put_byte;
 use batch::put_number;
 use batch::put_word;
+use call_lines::put_refused;
 use machine::State;
 use machine::Stepped;
 use scheduling::Who;
 use scheduling::who_at;
 use table::Table;
-use text_lines::put_refused;
 
 // Who holds a tick, from the curves.
 fn ask(text: &[u8], tick: u32) -> Who {

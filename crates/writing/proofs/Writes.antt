@@ -17,7 +17,7 @@ use Rattle.refusals.specs.declared.Ground.the-variants.{RulesBroken}
 use Rattle.refusals.specs.declared.Written.{Written}
 use Rattle.refusals.specs.declared.Written.the-variants.{Refused}
 use Rattle.refusals.proofs.Outcomes.{leaves-once}
-use Rattle.putting.specs.Puts.{inRoom}
+use Rattle.putting.specs.Rooms.{inRoom}
 use Rattle.writing.specs.Text.{textOf}
 use Rattle.writing.specs.Writing.{writeOutcome, Writes}
 use Rattle.writing.proofs.Lengths.{text-most}
@@ -49,7 +49,7 @@ same-obeys s =
     (ap₂ _&&_ (ap inTicks (s .span))
     (ap₂ _&&_ (ap (all serverObeys) (s .servers)) (ap₂ (λ (n : ℕ) (l : List Task). all (taskObeys n) l) (s .«servers_n») (s .tasks)))))
 
-same-outcome : {a b : Table} → Same a b → (out : List ℕ) → writeOutcome a out ≡ writeOutcome b out
+pub same-outcome : {a b : Table} → Same a b → (out : List ℕ) → writeOutcome a out ≡ writeOutcome b out
 same-outcome s out =
     ap₂ (λ (ok : Bool) (text : List ℕ). pick ok (inRoom text out) (refused (refusedFor RulesBroken))) (same-obeys s) (same-bytes s)
 

@@ -8,7 +8,7 @@ use Rattle.refusals.specs.Outcomes.{Outcome, refused, Leaves}
 use Rattle.refusals.specs.Refusals.{refusedFor}
 use Rattle.refusals.specs.declared.Ground.the-variants.{RulesBroken}
 use Rattle.refusals.specs.declared.Written.{Written}
-use Rattle.putting.specs.Puts.{inRoom}
+use Rattle.putting.specs.Rooms.{inRoom}
 use Rattle.writing.specs.Text.{textOf}
 
 -- "Refusals: 13 if the table breaks the rules, then 11 if the text doesn't fit"

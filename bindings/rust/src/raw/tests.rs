@@ -2,6 +2,8 @@
 use super::{grod_analyse, grod_step, grod_who_at};
 use crate::{Room, State, SERVERS, TASKS};
 
+mod rows;
+
 const TEXT: &[u8] = b"span\t8\nserver\tdeferrable\t2\t5\nserver\tdeferrable\t2\t4\nonce\t1\t4\t3\t5\nevery\t2\t1\t0\t4\t4\nonce\t1\t1\t9\t1\n";
 const BAD: &[u8] = b"span\t8\nserver\tdeferrable\t6\t5\n";
 
@@ -14,13 +16,13 @@ struct Places {
     line: u32,
     span: u32,
     counts: [usize; 2],
-    servers: [[u32; SERVERS]; 2],
-    tasks: [[u32; TASKS]; 3],
+    servers: [[u32; 2]; SERVERS],
+    tasks: [[u32; 3]; TASKS],
     margin: [i32; TASKS],
 }
 
 const UNTOUCHED: Places =
-    Places { line: BEFORE, span: BEFORE, counts: [77; 2], servers: [[BEFORE; SERVERS]; 2], tasks: [[BEFORE; TASKS]; 3], margin: [-77; TASKS] };
+    Places { line: BEFORE, span: BEFORE, counts: [77; 2], servers: [[BEFORE; 2]; SERVERS], tasks: [[BEFORE; 3]; TASKS], margin: [-77; TASKS] };
 
 /// The number that the analysis of a text answers, and the places afterwards.
 fn analysed(text: &[u8]) -> (u32, Places) {
@@ -28,9 +30,7 @@ fn analysed(text: &[u8]) -> (u32, Places) {
     let [free, sum, part, held, running, spare] = room.lend();
     let mut p = UNTOUCHED;
     let [servers_n, tasks_n] = &mut p.counts;
-    let [full, short] = &mut p.servers;
-    let [outcome, response, release] = &mut p.tasks;
-    // SAFETY: each pointer and length is of one slice; the arrays have 16 and 64 numbers; what is written is borrowed for this call alone.
+    // SAFETY: each pointer and length is of one slice; the arrays have 16 and 64 entries; what is written is borrowed for this call alone.
     let number = unsafe {
         grod_analyse(
             text.as_ptr(),
@@ -51,11 +51,8 @@ fn analysed(text: &[u8]) -> (u32, Places) {
             &mut p.span,
             servers_n,
             tasks_n,
-            full.as_mut_ptr(),
-            short.as_mut_ptr(),
-            outcome.as_mut_ptr(),
-            response.as_mut_ptr(),
-            release.as_mut_ptr(),
+            p.servers.as_mut_ptr(),
+            p.tasks.as_mut_ptr(),
             p.margin.as_mut_ptr(),
         )
     };
@@ -74,8 +71,8 @@ fn entries_beyond_the_counts_keep_what_was_there() {
         line: 0,
         span: 8,
         counts: [2, 3],
-        servers: [front([1, 2], BEFORE), front([u32::MAX, 1], BEFORE)],
-        tasks: [front([1, 1, 0], BEFORE), front([4, 4, 0], BEFORE), front([3, 4, 0], BEFORE)],
+        servers: front([[1, u32::MAX], [2, 1]], [BEFORE; 2]),
+        tasks: front([[1, 4, 3], [1, 4, 4], [0, 0, 0]], [BEFORE; 3]),
         margin: front([1, 0, 0], -77),
     };
     assert_eq!(analysed(TEXT), (0, expected));

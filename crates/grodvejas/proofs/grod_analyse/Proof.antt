@@ -7,8 +7,8 @@ use Rattle.grodvejas.proofs.grod_analyse.Statement.{statement}
 use Rattle.grodvejas.proofs.grod_analyse.Tie as tie
 
 -- the call, from in front of the handing out
-abbrev handing : tie.After-hand-analysis-arg10 → tie.After-analyse
-handing c = c .before .before .before .before .before .before .before .before .before .before .before .before .before .before .before .before .before .before .before .before .before .before
+abbrev handing : tie.After-hand-analysis-arg7 → tie.After-analyse
+handing c = c .before .before .before .before .before .before .before .before .before .before .before .before .before .before .before .before .before .before .before
 
 -- and from behind it
 abbrev asked : tie.After-hand-analysis → tie.After-analyse
@@ -41,21 +41,7 @@ same-length-6 c = asked c .analyse .kept .1 .1 .1 .1 .1 .1 .0
 returns : tie.Need-returns
 returns c =
     let w = asked c .analyse .ensures in
-    let h = rw (w .answer) at (c .hand-analysis .ensures) in
-    record {
-      number = h .0;
-      in-line = h .1;
-      ticks = h .2;
-      servers-count = h .3;
-      tasks-count = h .4;
-      fulls-are = h .5;
-      shorts-are = h .6;
-      outcomes-are = h .7;
-      responses-are = h .8;
-      releases-are = h .9;
-      margins-are = h .10;
-      buffers = by-number (sym (c .hand-analysis .ensures .0)) (w .buffers);
-    }
+    record { answers = rw (w .answer) at (c .hand-analysis .ensures); buffers = by-number (sym (c .hand-analysis .ensures .number)) (w .buffers) }
 
 pub grod-analyse-spec : {M : Type 1} → statement M
 grod-analyse-spec =

@@ -1,5 +1,5 @@
 -- `grodvejas::grod_step` meets its contract: the step of an accepted text's table is handed out, or the refusal.
-use mathlib.Core.Path.{sym, ap, _∙_}
+use mathlib.Core.Path.{refl, sym, ap, _∙_}
 use borrow.Author.Needs.{needs}
 use Rattle.reading.specs.declared.Reading.{Reading}
 use Rattle.grodvejas.proofs.Texts.{steps-accepted, steps-refused}
@@ -23,8 +23,9 @@ hand-no-step-requires c κs = search needs
 
 returns : tie.Need-returns
 returns c =
-    let e = c .before .before .before .before .before .before .before .before .before .before .read .ensures in
-    steps-accepted _ _ (ap (λ (r : Reading). r .answer) (sym e) ∙ c .before .before .before .before .before .before .before .enum-told .given .1) (rw e at (c .step-table .ensures))
+    let arm = c .before .before .before .before .before .before in
+    let e = arm .before .before .before .read .ensures in
+    steps-accepted _ _ (ap (λ (r : Reading). r .answer) (sym e) ∙ arm .enum-told .given .1) refl (rw e at (c .step-table .ensures))
 
 returns-2 : tie.Need-returns-2
 returns-2 c =

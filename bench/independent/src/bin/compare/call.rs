@@ -1,5 +1,7 @@
 //! What the comparison needs to know of a call, whichever program it is for.
 
+use independent::Refusal;
+
 pub trait Call: Clone + Send + Sync {
     /// The proved program that answers such calls.
     const PROGRAM: &'static str;
@@ -44,4 +46,31 @@ pub fn shorter_lists<T: Clone>(list: &[T]) -> Vec<Vec<T>> {
         part /= 2;
     }
     lists
+}
+
+/// A buffer of `room` bytes before it is lent, with the guard behind it.
+pub fn lent(room: usize) -> Vec<u8> {
+    const GUARD: usize = 8;
+    (0..room + GUARD).map(|index| (index % 251) as u8).collect()
+}
+
+/// Puts what a call answered that was lent a buffer, how many bytes it wrote or its refusal; then the buffer and its guard. Gives the
+/// ground.
+pub fn put_lent(result: Result<usize, Refusal>, buffer: &[u8], answer: &mut Vec<u8>) -> u32 {
+    let (words, ground) = match result {
+        Ok(count) => (format!("count {count}"), 0),
+        Err(Refusal { number, line, .. }) => (format!("refused {number} {line}"), number),
+    };
+    answer.extend(words.bytes());
+    answer.extend(b" | ");
+    put_hex(buffer, answer);
+    ground
+}
+
+/// Puts bytes, two digits each.
+pub fn put_hex(bytes: &[u8], line: &mut Vec<u8>) {
+    for byte in bytes {
+        line.push(b"0123456789abcdef"[usize::from(byte >> 4)]);
+        line.push(b"0123456789abcdef"[usize::from(byte & 15)]);
+    }
 }

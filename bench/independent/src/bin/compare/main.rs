@@ -1,10 +1,10 @@
-//! Compares the proved programs `curve_calls` and `text_calls` with the plain implementation in this package: it makes inputs,
-//! feeds them to the programs through pipes, works out what they have to print, and compares byte for byte.
+//! Compares the proved programs `curve_calls`, `text_calls` and `write_calls` with the plain implementation in this package: it makes
+//! inputs, feeds them to the programs through pipes, works out what they have to print, and compares byte for byte.
 //!
 //! To see that it finds faults, build it wrong on purpose: `cargo build --release --offline --features wrong`. Then a deferrable
-//! server's budget left at a refill is added to the new one (`machine.rs`), and time to provide pushes an exact fit into the next
-//! window (`curves.rs`); differences in both programs have to come within seconds. `./compare --wrong` in the repository's
-//! root does this. `--help` lists the options.
+//! server's budget left at a refill is added to the new one (`machine.rs`), time to provide pushes an exact fit into the next
+//! window (`curves.rs`), and a table's text that just fits is refused (`writing.rs`); differences in all three programs have to come
+//! within seconds. `./compare --wrong` in the repository's root does this. `--help` lists the options.
 
 mod call;
 mod comparing;
@@ -18,6 +18,8 @@ mod programs;
 mod table_families;
 mod table_inputs;
 mod text_call;
+mod write_call;
+mod write_inputs;
 
 use call::Call;
 use comparing::{compare, line_of, Difference, Maker, Outcome};
@@ -49,6 +51,9 @@ fn run(options: &Options) -> Result<usize, String> {
     if options.tables() > 0 {
         found += run_program(options, &table_makers(options), found)?;
     }
+    if options.writes() > 0 {
+        found += run_program(options, &write_makers(options), found)?;
+    }
     match found {
         0 => println!("no difference"),
         _ => println!("differences: {found}"),
@@ -67,6 +72,13 @@ fn table_makers(options: &Options) -> Vec<Maker<text_call::TextCall>> {
     let step = if options.short { 20 } else { 1 };
     let mut makers = table_inputs::systematic(options.seed, step);
     makers.extend(table_inputs::random(options.seed, options.tables()));
+    makers
+}
+
+fn write_makers(options: &Options) -> Vec<Maker<write_call::WriteCall>> {
+    let step = if options.short { 10 } else { 1 };
+    let mut makers = write_inputs::systematic(options.seed, step);
+    makers.extend(write_inputs::random(options.seed, options.writes()));
     makers
 }
 

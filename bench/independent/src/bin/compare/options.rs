@@ -6,7 +6,7 @@ use std::path::PathBuf;
 use std::time::{SystemTime, UNIX_EPOCH};
 
 pub const HELP: &str = "\
-compare: compares the proved programs curve_calls and text_calls with a second implementation, byte for byte
+compare: compares the proved programs curve_calls, text_calls and write_calls with a second implementation, byte for byte
 
 usage: compare [OPTION..] --programs FOLDER [-- WORD..]
 
@@ -15,7 +15,8 @@ usage: compare [OPTION..] --programs FOLDER [-- WORD..]
   --seed N           the same seed makes the same inputs; without it the clock gives one
   --tables N         how many random tables (default 200000; 0: none, and no systematic ones)
   --curves N         how many random curve calls (default 2000000; 0: none, and no systematic ones)
-  --short            a run of seconds: 3000 tables, 30000 curve calls, a part of the systematic ones
+  --writes N         how many random tables to write back (default 200000; 0: none, and no systematic ones)
+  --short            a run of seconds: 3000 tables, 30000 curve calls, 3000 tables to write, a part of the systematic ones
   --found FOLDER     where a table that shows a difference is stored, as found-SEED-N.txt (default: tables)
   --jobs N           how many programs run at a time (default: the machine's processors)
   --most N           stop at so many calls of one program that differ (default 5)
@@ -26,14 +27,16 @@ differences or that there is none. What differs is first made as small as can be
 could not be run.
 
 To see that the comparison finds faults, build it wrong on purpose: 'cargo build --release --offline --features wrong'. In that
-build a deferrable server's budget left at a refill is added to the new one, and an exact fit is pushed into the next window
-by time to provide. Differences in both programs come within seconds. './compare --wrong' in the repository does this.
+build a deferrable server's budget left at a refill is added to the new one, an exact fit is pushed into the next window by
+time to provide, and a table's text that just fits is refused. Differences in all three programs come within seconds.
+'./compare --wrong' in the repository does this.
 ";
 
 pub struct Options {
     pub seed: u64,
     tables: Option<usize>,
     curves: Option<usize>,
+    writes: Option<usize>,
     pub short: bool,
     pub found: PathBuf,
     pub jobs: usize,
@@ -47,6 +50,7 @@ impl Options {
             seed: clock(),
             tables: None,
             curves: None,
+            writes: None,
             short: false,
             found: PathBuf::from("tables"),
             jobs: std::thread::available_parallelism().map_or(1, |count| count.get()),
@@ -85,12 +89,18 @@ impl Options {
         self.curves.unwrap_or(if self.short { 30_000 } else { 2_000_000 })
     }
 
+    /// How many random tables to write back.
+    pub fn writes(&self) -> usize {
+        self.writes.unwrap_or(if self.short { 3000 } else { 200_000 })
+    }
+
     fn set(&mut self, option: &str, value: OsString) -> Result<(), String> {
         match option {
             "--programs" => self.programs.folder = PathBuf::from(value),
             "--found" => self.found = PathBuf::from(value),
             "--seed" => self.seed = number(option, &value)?,
             "--tables" => self.tables = Some(number(option, &value)? as usize),
+            "--writes" => self.writes = Some(number(option, &value)? as usize),
             "--curves" => self.curves = Some(number(option, &value)? as usize),
             "--jobs" => self.jobs = number(option, &value)?.max(1) as usize,
             "--most" => self.most = number(option, &value)?.max(1) as usize,

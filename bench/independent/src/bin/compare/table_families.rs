@@ -1,6 +1,7 @@
 //! All table texts of a few small families, good and bad.
 
 use crate::damage;
+use independent::reading::read;
 
 /// Every text of some small families.
 pub fn every_text() -> Vec<Vec<u8>> {
@@ -44,6 +45,12 @@ const CORNERS: [&str; 12] = [
     "span -/server periodic 1 2/server deferrable 1 3/every 2 1 1 2 -/every 2 1 0 16000 -/",
     "span 16000/server periodic 1 2/server deferrable 1 2/every 2 1 1 2 -/every 2 1 0 2 -/every 1 1 1 2 -/",
 ];
+
+/// The tables that are damaged systematically and the good ones at the edges.
+pub fn every_base() -> Vec<Vec<u8>> {
+    let texts = BASES.iter().chain(&CORNERS).map(|base| tabbed(base));
+    texts.filter(|text| read(text).is_ok()).collect()
+}
 
 fn tabbed(shown: &str) -> Vec<u8> {
     shown.replace(' ', "\t").replace('/', "\n").into_bytes()

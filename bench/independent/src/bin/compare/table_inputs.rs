@@ -41,18 +41,23 @@ pub fn systematic(seed: u64, step: usize) -> Vec<Maker<TextCall>> {
     makers
 }
 
-fn random_calls(dice: &mut Dice) -> Vec<TextCall> {
+/// The text of a random table of any size.
+pub fn random_text(dice: &mut Dice) -> Vec<u8> {
     let size = Size::random(dice);
-    let mut text = random_table(dice, &size);
+    random_table(dice, &size)
+}
+
+fn random_calls(dice: &mut Dice) -> Vec<TextCall> {
+    let mut text = random_text(dice);
     if dice.one_in(3) {
         text = damage::damaged(dice, &text);
     }
     calls_on(dice, &text)
 }
 
-/// What is asked of a text: three kinds of calls always, the others now and then.
+/// What is asked of a text: four kinds of calls always, the others now and then.
 fn calls_on(dice: &mut Dice, text: &[u8]) -> Vec<TextCall> {
-    let mut asked = vec![Asked::Report, Asked::MachineReport, Asked::Reading];
+    let mut asked = vec![Asked::Report, Asked::MachineReport, Asked::Reading, Asked::Rewriting];
     let span = read(text).map_or(0, |table| table.span);
     if span <= MOST_EACH_TICK && dice.one_in(8) {
         asked.push(Asked::EachTick);
@@ -66,11 +71,14 @@ fn calls_on(dice: &mut Dice, text: &[u8]) -> Vec<TextCall> {
     if dice.one_in(4) {
         asked.push(Asked::WhoAt { tick: random_tick(dice, span), rooms: random_rooms(dice) });
     }
+    if span > 0 && dice.one_in(2) {
+        asked.extend([Asked::ReadBack, Asked::WrittenAgain]);
+    }
     asked.into_iter().map(|asked| TextCall { asked, text: text.to_vec() }).collect()
 }
 
-/// A room for a report: exact, too small or larger.
-fn random_room(dice: &mut Dice, need: usize) -> usize {
+/// A room for so many bytes: exact, too small or larger.
+pub fn random_room(dice: &mut Dice, need: usize) -> usize {
     match dice.below(6) {
         0 => need,
         1 => need - 1,

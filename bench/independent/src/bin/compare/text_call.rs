@@ -1,10 +1,11 @@
 //! Calls on table texts, for the program `text_calls`.
 
-use crate::call::{shorter_lists, smaller_numbers, Call};
+use crate::call::{lent, put_hex, put_lent, shorter_lists, smaller_numbers, Call};
 use independent::analysis::{analyse, who_at};
 use independent::machine::whole_run;
 use independent::reading::{read, Kind, Release, Server, Table, Task};
-use independent::report::report;
+use independent::report::{refused, report};
+use independent::writing;
 use independent::Refusal;
 
 #[derive(Clone, Debug)]
@@ -20,15 +21,30 @@ pub enum Asked {
     MachineReport,
     Reading,
     EachTick,
-    ReportInto { room: usize },
-    Analysis { rooms: [usize; 6] },
-    WhoAt { tick: u32, rooms: [usize; 6] },
+    ReportInto {
+        room: usize,
+    },
+    Analysis {
+        rooms: [usize; 6],
+    },
+    WhoAt {
+        tick: u32,
+        rooms: [usize; 6],
+    },
+    Rewriting,
+    /// Reading of what rewriting wrote: the table has to be the first text's.
+    ReadBack,
+    /// Rewriting of what rewriting wrote: the bytes have to be the same.
+    WrittenAgain,
 }
 
 impl Call for TextCall {
     const PROGRAM: &'static str = "text_calls";
-    const KINDS: &'static [&'static str] =
-        &["report", "machine's report", "reading", "each tick", "report into a room", "analysis", "who at"];
+    #[rustfmt::skip]
+    const KINDS: &'static [&'static str] = &[
+        "report", "machine's report", "reading", "each tick", "report into a room", "analysis", "who at", "rewriting",
+        "reading of what was written", "rewriting of what was written",
+    ];
 
     fn kind(&self) -> usize {
         match self.asked {
@@ -39,11 +55,19 @@ impl Call for TextCall {
             Asked::ReportInto { .. } => 4,
             Asked::Analysis { .. } => 5,
             Asked::WhoAt { .. } => 6,
+            Asked::Rewriting => 7,
+            Asked::ReadBack => 8,
+            Asked::WrittenAgain => 9,
         }
     }
 
     fn put_line(&self, line: &mut Vec<u8>) {
-        line.extend(format!("{} ", self.kind() + 1).bytes());
+        let number = match self.asked {
+            Asked::ReadBack => 3,
+            Asked::WrittenAgain => 8,
+            _ => self.kind() + 1,
+        };
+        line.extend(format!("{number} ").bytes());
         match &self.asked {
             Asked::ReportInto { room } => line.extend(format!("{room} ").bytes()),
             Asked::Analysis { rooms } => put_numbers(rooms, line),
@@ -53,15 +77,19 @@ impl Call for TextCall {
             }
             _ => {}
         }
-        put_hex(&self.text, line);
+        match self.asked {
+            Asked::ReadBack | Asked::WrittenAgain => put_hex(&written(&self.text).unwrap_or(self.text.clone()), line),
+            _ => put_hex(&self.text, line),
+        }
         line.push(b'\n');
     }
 
     fn put_answer(&self, answer: &mut Vec<u8>) -> u32 {
         let refusal = match &self.asked {
             Asked::Report | Asked::MachineReport => put_report(&self.text, answer),
-            Asked::Reading => put_reading(&self.text, answer),
+            Asked::Reading | Asked::ReadBack => put_reading(&self.text, answer),
             Asked::EachTick => put_each_tick(&self.text, answer),
+            Asked::Rewriting | Asked::WrittenAgain => put_rewritten(&self.text, answer),
             Asked::ReportInto { room } => put_report_into(&self.text, *room, answer),
             Asked::Analysis { rooms } => {
                 let result = analyse(&self.text, rooms);
@@ -100,13 +128,6 @@ fn put_numbers(numbers: &[usize], line: &mut Vec<u8>) {
     }
 }
 
-fn put_hex(bytes: &[u8], line: &mut Vec<u8>) {
-    for byte in bytes {
-        line.push(b"0123456789abcdef"[usize::from(byte >> 4)]);
-        line.push(b"0123456789abcdef"[usize::from(byte & 15)]);
-    }
-}
-
 /// The ground on which a text is not read, 0 if it is read.
 fn ground(text: &[u8]) -> u32 {
     read(text).err().map_or(0, |refusal| refusal.number)
@@ -115,6 +136,17 @@ fn ground(text: &[u8]) -> u32 {
 /// The report and, with the line feed that every answer gets, an empty line.
 fn put_report(text: &[u8], answer: &mut Vec<u8>) -> u32 {
     answer.extend(report(text));
+    ground(text)
+}
+
+/// The text of a text's table, if it is read.
+fn written(text: &[u8]) -> Result<Vec<u8>, Refusal> {
+    read(text).map(|table| writing::text(&table))
+}
+
+/// The table's text or the refusal's line and, with the line feed that every answer gets, an empty line.
+fn put_rewritten(text: &[u8], answer: &mut Vec<u8>) -> u32 {
+    answer.extend(written(text).unwrap_or_else(|refusal| refused(refusal).into_bytes()));
     ground(text)
 }
 
@@ -174,19 +206,13 @@ fn put_each_tick(text: &[u8], answer: &mut Vec<u8>) -> u32 {
 
 /// The report in a lent buffer, and the bytes behind the buffer, which stay as they were.
 fn put_report_into(text: &[u8], room: usize, answer: &mut Vec<u8>) -> u32 {
-    const GUARD: usize = 8;
-    let mut buffer: Vec<u8> = (0..room + GUARD).map(|index| (index % 251) as u8).collect();
+    let mut buffer = lent(room);
     let bytes = report(text);
-    let refusal = if bytes.len() > room { 11 } else { 0 };
-    if refusal == 0 {
+    let result = if bytes.len() > room { Err(Refusal::plain(11)) } else { Ok(bytes.len()) };
+    if result.is_ok() {
         buffer[..bytes.len()].copy_from_slice(&bytes);
-        answer.extend(format!("count {}", bytes.len()).bytes());
-    } else {
-        answer.extend(b"refused 11 0");
     }
-    answer.extend(b" | ");
-    put_hex(&buffer, answer);
-    refusal
+    put_lent(result, &buffer, answer)
 }
 
 /// The answer's words and what has become of the six work buffers: zero if the call is accepted, else the same as before.
@@ -267,4 +293,33 @@ fn smaller_asked(asked: &Asked) -> Vec<Asked> {
         }
         _ => Vec::new(),
     }
+}
+
+/// What `text_calls` has to print for the tables of its stored input that are written back is what this package says.
+#[cfg(test)]
+#[test]
+fn stored_rewriting() {
+    let folder = std::path::Path::new(env!("CARGO_MANIFEST_DIR")).join("../../crates/text_calls");
+    let stored = |name: &str| std::fs::read_to_string(folder.join(name)).unwrap();
+    let input = stored("stdin");
+    let lines = input.lines().skip_while(|line| *line != "# the table written back").take_while(|line| *line != "# no kind");
+    let mut answer = Vec::new();
+    for line in lines {
+        if line.starts_with('#') {
+            answer.extend(format!("{line}\n").bytes());
+        } else if let Some(text) = line.strip_prefix("8 ").and_then(from_hex) {
+            TextCall { asked: Asked::Rewriting, text }.put_answer(&mut answer);
+        } else {
+            answer.extend(b"bad\n");
+        }
+    }
+    assert!(!answer.is_empty() && stored("stdout").contains(std::str::from_utf8(&answer).unwrap()));
+}
+
+/// The bytes that lowercase digits stand for, 5,000 at most.
+#[cfg(test)]
+fn from_hex(digits: &str) -> Option<Vec<u8>> {
+    let value = |digit: &u8| b"0123456789abcdef".iter().position(|other| other == digit);
+    let pair = |pair: &[u8]| Some((value(pair.first()?)? * 16 + value(pair.get(1)?)?) as u8);
+    digits.as_bytes().chunks(2).map(pair).collect::<Option<Vec<u8>>>().filter(|bytes| bytes.len() <= 5000)
 }

@@ -1,27 +1,26 @@
--- `handing::listing::list_servers` meets its contract: both numbers of each place below the count are written.
+-- `handing::listing::list_servers` meets its contract. The loop's invariant: the rows of the servers below i are written.
 use Prim.Native.Nat.{_-_, _≤_, _<_}
-use mathlib.Core.Path.{refl}
+use mathlib.Core.Path.{_≡_, refl, ap}
 use native.Mathlib.Omega.{arith}
+use lib.ListN.{length}
 use borrow.Author.Needs.{needs}
-use Rattle.answers.specs.declared.ServerAnswer.{ServerAnswer}
-use Rattle.handing.specs.Handing.{shortNumber}
-use Rattle.handing.proofs.Listed.{ListedTo, listed-none, listed-next, listed-all}
+use Rattle.entries.proofs.Rows.{RowsTo, rows-none, rows-next, rows-all}
+use Rattle.handing.specs.Handing.{serverAnswerRow}
 use Rattle.handing.proofs.listing.list_servers.Statement.{statement}
 use Rattle.handing.proofs.listing.list_servers.Tie as tie
 
 abbrev Inv-loop : tie.InvT-loop
-Inv-loop n full₀ short₀ servers i₀ full short i =
-    (i ≤ n) × ListedTo (λ (a : ServerAnswer). a .full) servers i full₀ full × ListedTo (λ (a : ServerAnswer). shortNumber (a .short)) servers i short₀ short
+Inv-loop n out₀ servers i₀ out i = (i ≤ n) × RowsTo serverAnswerRow 2 (λ a. refl) servers i out₀ out
 
 abbrev μ-loop : tie.MeasureT-loop
-μ-loop n full₀ short₀ servers i₀ full short i = n - i
+μ-loop n out₀ servers i₀ out i = n - i
 
 loop-holds : tie.Need-loop-holds Inv-loop μ-loop
-loop-holds c = (omega arith, listed-none _ _ _, listed-none _ _ _)
+loop-holds c = (omega arith, rows-none _ _ _ _ _)
 
 -- the place lies inside
 inside : (c : tie.In-loop Inv-loop μ-loop) → c .before .loop .i < 16
-inside c = omega (arith, c .loop-test .taken, c .before .before .before .before .pre)
+inside c = omega (arith, c .loop-test .taken, c .before .before .before .pre .1)
 
 mul-answer : tie.Need-mul-answer Inv-loop μ-loop
 mul-answer c = let h = inside c in search needs
@@ -29,52 +28,45 @@ mul-answer c = let h = inside c in search needs
 array-copy-out-answer : tie.Need-array-copy-out-answer Inv-loop μ-loop
 array-copy-out-answer c = inside c
 
-mul-full : tie.Need-mul-full Inv-loop μ-loop
-mul-full c = let h = inside (c .before) in search needs
+server-numbers-requires : tie.Need-server-numbers-requires Inv-loop μ-loop
+server-numbers-requires c κs = search needs
 
-slice-write-full : tie.Need-slice-write-full Inv-loop μ-loop
-slice-write-full c =
-    let turn = c .before in
-    omega (arith, turn .loop-test .taken, turn .before .loop .inv .1 .long, turn .before .before .before .before .pre .2)
+mul-at : tie.Need-mul-at Inv-loop μ-loop
+mul-at c = let h = inside (c .before .before) in search needs
 
-short-number-requires : tie.Need-short-number-requires Inv-loop μ-loop
-short-number-requires c κs = search needs
+slice-aggregate-put-row : tie.Need-slice-aggregate-put-row Inv-loop μ-loop
+slice-aggregate-put-row c = search needs
 
-mul-short : tie.Need-mul-short Inv-loop μ-loop
-mul-short c = let h = inside (c .before .before) in search needs
+put-row-requires : tie.Need-put-row-requires Inv-loop μ-loop
+put-row-requires c κs =
+    let turn = c .before .before .before .before in
+    let wide : length (c .before .before .server-numbers .result) ≡ 2 = ap length (c .before .before .server-numbers .ensures) in
+    omega (arith, wide, inside turn, turn .before .loop .inv .1 .long, turn .before .before .before .pre .2)
 
-slice-write-short : tie.Need-slice-write-short Inv-loop μ-loop
-slice-write-short c =
-    let turn = c .before .before in
-    omega (arith, turn .loop-test .taken, turn .before .loop .inv .2 .long, turn .before .before .before .before .pre .3)
+-- the turn, from behind the calls in it
+abbrev turn : tie.After-slice-known2 Inv-loop μ-loop → tie.In-loop Inv-loop μ-loop
+turn c = c .before .before .before .before .before .before .before
 
 add-i : tie.Need-add-i Inv-loop μ-loop
-add-i c = let h = inside (c .before .before) in search needs
+add-i c = let h = inside (turn c) in search needs
 
 loop-less : tie.Need-loop-less Inv-loop μ-loop
 loop-less c = search needs
 
 loop-again : tie.Need-loop-again Inv-loop μ-loop
 loop-again c =
-    let turn = c .before .before in
-    let so-far = turn .before .loop .inv in
-    let pre = turn .before .before .before .before .pre in
-    let test = turn .loop-test .taken in (
-      omega (arith, test),
-      listed-next _ _ _ _ _ _ _ (omega (arith, test, pre)) (omega (arith, test, pre .2)) refl (so-far .1),
-      listed-next _ _ _ _ _ _ _ (omega (arith, test, pre)) (omega (arith, test, pre .3)) (c .short-number .ensures) (so-far .2),
-    )
+    let here = turn c .before .loop in
+    let start = turn c .before .before .before in
+    let row = c .before .before .before .before .before .server-numbers in
+    let next = rows-next serverAnswerRow 2 (λ a. refl) (start .args .t1) (here .i) (start .args .out .now) (here .out) _ (row .result)
+    (omega (arith, start .pre .0, inside (turn c))) (omega (arith, inside (turn c), start .pre .2)) (row .ensures) (here .inv .1) in
+    (omega (arith, turn c .loop-test .taken), rw (c .before .before .put-row .ensures) next)
 
 same-length : tie.Need-same-length Inv-loop μ-loop
 same-length c = c .before .loop .inv .1 .long
 
-same-length-2 : tie.Need-same-length-2 Inv-loop μ-loop
-same-length-2 c = c .before .loop .inv .2 .long
-
 returns : tie.Need-returns Inv-loop μ-loop
-returns c =
-    let so-far = c .before .loop .inv in
-    (listed-all _ _ _ _ _ _ (so-far .0) (c .loop-test .left) (so-far .1), listed-all _ _ _ _ _ _ (so-far .0) (c .loop-test .left) (so-far .2))
+returns c = let so-far = c .before .loop .inv in rows-all _ _ _ _ _ _ _ _ (so-far .0) (c .loop-test .left) (so-far .1)
 
 pub list-servers-spec : {M : Type 1} → statement M
 list-servers-spec =
@@ -85,14 +77,12 @@ list-servers-spec =
     loop-holds
     mul-answer
     array-copy-out-answer
-    mul-full
-    slice-write-full
-    short-number-requires
-    mul-short
-    slice-write-short
+    server-numbers-requires
+    mul-at
+    slice-aggregate-put-row
+    put-row-requires
     add-i
     loop-less
     loop-again
     same-length
-    same-length-2
     returns)

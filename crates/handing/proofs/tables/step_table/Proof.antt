@@ -12,23 +12,23 @@ step-requires c κs = search needs
 returns : tie.Need-returns
 returns c =
     let e = c .before .before .before .step .ensures in
-    let number = ap (λ (s : Stepped). s .refusal .number) e in (
-      number,
-      ap (λ (s : Stepped). s .refusal .line) e,
-      refused-stays _ _ (λ z. c .if1 .taken (number ∙ z)),
-      ap (λ (s : Stepped). s .holder) e,
-      ap (λ (s : Stepped). s .runner) e,
-    )
+    let number = ap (λ (s : Stepped). s .refusal .number) e in
+    record {
+      number = number;
+      next = refused-stays _ _ (λ z. c .if1 .taken (number ∙ z));
+      holds = ap (λ (s : Stepped). s .holder) e;
+      runs = ap (λ (s : Stepped). s .runner) e;
+    }
 
 returns-2 : tie.Need-returns-2
 returns-2 c =
-    let e = c .before .before .before .before .before .before .step .ensures in (
-      sym (c .before .before .before .if1 .left) ∙ ap (λ (s : Stepped). s .refusal .number) e,
-      ap (λ (s : Stepped). s .refusal .line) e,
-      ap (λ (s : Stepped). s .next) e,
-      ap (λ (s : Stepped). s .holder) e,
-      ap (λ (s : Stepped). s .runner) e,
-    )
+    let e = c .before .before .before .before .before .before .step .ensures in
+    record {
+      number = sym (c .before .before .before .if1 .left) ∙ ap (λ (s : Stepped). s .refusal .number) e;
+      next = ap (λ (s : Stepped). s .next) e;
+      holds = ap (λ (s : Stepped). s .holder) e;
+      runs = ap (λ (s : Stepped). s .runner) e;
+    }
 
 pub step-table-spec : {M : Type 1} → statement M
 step-table-spec = tie.close (tie.spec step-requires returns returns-2)

@@ -1,10 +1,10 @@
--- `text_reports::reports::put_digits` ends, and stays within its bytes. The loop's invariant: the place is among the bytes or at their end.
+-- `call_lines::put_digits` ends, and stays within its bytes. The loop's invariant: the place is among the bytes or at their end.
 use Prim.Native.Nat.{_-_, _≤_}
 use native.Mathlib.Omega.{arith}
 use lib.ListN.{length}
 use borrow.Author.Needs.{needs}
-use Rattle.text_reports.proofs.reports.put_digits.Statement.{statement}
-use Rattle.text_reports.proofs.reports.put_digits.Tie as tie
+use Rattle.call_lines.proofs.put_digits.Statement.{statement}
+use Rattle.call_lines.proofs.put_digits.Tie as tie
 
 abbrev Inv-loop : tie.InvT-loop
 Inv-loop out₀ n bytes m₀ i₀ out m i = i ≤ length bytes

@@ -1,10 +1,10 @@
--- `text_reports::reports::fresh` ends, and stays within its array. The loop needs no invariant but that the array keeps its length.
+-- `call_lines::fresh` ends, and stays within its array. The loop needs no invariant but that the array keeps its length.
 use Prim.Native.Nat.{_-_}
 use mathlib.Core.Path.{_≡_}
 use lib.ListN.{length}
 use borrow.Author.Needs.{needs}
-use Rattle.text_reports.proofs.reports.fresh.Statement.{statement}
-use Rattle.text_reports.proofs.reports.fresh.Tie as tie
+use Rattle.call_lines.proofs.fresh.Statement.{statement}
+use Rattle.call_lines.proofs.fresh.Tie as tie
 
 abbrev Inv-loop : tie.InvT-loop
 Inv-loop bytes₀ i₀ bytes i = length bytes ≡ 4104

@@ -1,0 +1,2 @@
+pub mod Rewriting
+pub mod Examples
