@@ -2,14 +2,13 @@
 use Prim.Native.Nat.{ℕ, _+_, _-_, _≤_, _<_}
 use mathlib.Core.Path.{_≡_, refl, sym, ap, ap₂, _∙_}
 use mathlib.Core.List.{List, [], _∷_, _++_, append-assoc, append-nil, map}
-use mathlib.Core.Bool.{Bool, true, false, _&&_}
+use mathlib.Core.Bool.{Bool, true, _&&_}
 use native.Mathlib.Numerals.{add-one}
 use native.Mathlib.Omega.{arith}
 use lib.ListN.{length, take, length-set, length-append}
 use lib.Seq.{take-suc-set, length-take-le, getD-append-seam}
 use lib.Dec.{ltb}
 use borrow.Author.Tests.{lt-ltb, le-leb, ne-eqb}
-use Rattle.basics.specs.Choice.{pick}
 use Rattle.basics.proofs.Tests.{and-left, and-right}
 use Rattle.table.specs.Rules.{all, serverObeys, taskObeys, serversOf, tasksOf}
 use Rattle.table.specs.Places.{Obeyed, Same}
@@ -26,7 +25,7 @@ use Rattle.lines.specs.declared.Line.the-variants.{SpanIs, ServerIs, TaskIs}
 use Rattle.reading.specs.declared.Reading.{Reading}
 use Rattle.writing.specs.Text.{ended, spanFields, serverFields, taskFields, spanLine, serverLine, taskLine, linesIn, textOf}
 use Rattle.writing.proofs.Parted.{without, line-without, lines-back}
-use Rattle.writing.proofs.Spoken.{span-clear, server-clear, task-clear, span-read, server-read, task-read}
+use Rattle.writing.proofs.Spoken.{picks-first, picks-second, span-clear, server-clear, task-clear, span-read, server-read, task-read}
 use Rattle.writing.proofs.Lengths.{text-most}
 
 -- ---- the lines of the text are those that were written
@@ -180,17 +179,11 @@ text-feeds l ls = let r = ended-feeds l ls in ap endsWithFeed (r .1) ∙ feed-la
 
 -- ---- the whole text
 
-go-pick : (b : Bool) (x y r : Reading) → b ≡ true → x ≡ r → pick b x y ≡ r
-go-pick b x y r e h = rw e h
-
-go-past : (b : Bool) (x y r : Reading) → b ≡ false → y ≡ r → pick b x y ≡ r
-go-past b x y r e h = rw e h
-
 ended-right : (t : Table) (n : ℕ) → 0 < t .«servers_n» → 0 < t .«tasks_n» → 0 < t .span → endedOf t n ≡ accepted t
 ended-right t n a b c =
     let some : (ltb 0 (t .«servers_n») && ltb 0 (t .«tasks_n»)) ≡ true = rw (lt-ltb 0 (t .«servers_n») a) (lt-ltb 0 (t .«tasks_n») b) in
-    go-pick _ _ _ _ some
-    (go-past _ _ _ _ (ne-eqb (t .span) 0 (λ e. omega (arith, e, c))) refl)
+    picks-first _ _ _ _ some
+    (picks-second _ _ _ _ (ne-eqb (t .span) 0 (λ e. omega (arith, e, c))) refl)
 
 -- the table before its servers, and before its tasks
 abbrev spanned : Table → Table
@@ -257,6 +250,6 @@ module _ (table : Table) (o : Obeyed table) where
   -- the round trip: what was written is read as the table with the same entries, stored anew
   pub text-read : readingOf (textOf table) ≡ accepted (again table)
   text-read =
-      go-pick _ _ _ _ (le-leb (length (textOf table)) 4096 (omega (arith, text-most table o)))
-      (go-pick _ _ _ _ (text-feeds (spanLine (table .span)) (map serverLine (serversOf table) ++ map taskLine (tasksOf table)))
+      picks-first _ _ _ _ (le-leb (length (textOf table)) 4096 (omega (arith, text-most table o)))
+      (picks-first _ _ _ _ (text-feeds (spanLine (table .span)) (map serverLine (serversOf table) ++ map taskLine (tasksOf table)))
       (ap (λ (ls : List (List ℕ)). readLines ls noTable 1) (text-lines table) ∙ lines-read))

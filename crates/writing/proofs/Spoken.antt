@@ -17,6 +17,7 @@ use Rattle.table.specs.declared.Release.the-variants.{Once, Every}
 use Rattle.table.specs.declared.Server.{Server}
 use Rattle.table.specs.declared.Task.{Task}
 use Rattle.fields.specs.Fields.{fieldsOf, fieldAt, sameBytes, dash, wordOf, fieldNumber}
+use Rattle.lines.proofs.Passing.{test-passed, test-refused}
 use Rattle.lines.specs.Lines.{field, kindOf, kindField, deadlineOf, byWord, lineOf}
 use Rattle.fields.specs.declared.Word.{Word}
 use Rattle.fields.specs.declared.Word.the-variants as word
@@ -54,22 +55,22 @@ released-clear (Every o p) s w d = simp decimal-clear
 pub task-clear : (k : Task) → all clear (taskFields k) ≡ true
 task-clear k = released-clear (k .release) (k .server) (k .work) (k .deadline)
 
--- ---- one test passed
+-- ---- one step of a line: a test, a field, a kind, the first word
 
-go-pick : (b : Bool) (x y r : Line) → b ≡ true → x ≡ r → pick b x y ≡ r
-go-pick b x y r e h = rw e h
+pub picks-first : {A : Type 0} (b : Bool) (x y r : A) → b ≡ true → x ≡ r → pick b x y ≡ r
+picks-first b x y r e h = test-passed x y e ∙ h
 
-go-field : (f : Number) (n place : ℕ) (next : ℕ → Line) (r : Line) → f ≡ number.Value n → next n ≡ r → field f place next ≡ r
-go-field f n place next r e h = rw e h
+pub picks-second : {A : Type 0} (b : Bool) (x y r : A) → b ≡ false → y ≡ r → pick b x y ≡ r
+picks-second b x y r e h = test-refused x y e ∙ h
 
-go-kind : (f : KindField) (k : Kind) (place : ℕ) (next : Kind → Line) (r : Line) → f ≡ kind.Is k → next k ≡ r → kindField f place next ≡ r
-go-kind f k place next r e h = rw e h
+field-reads : (f : Number) (n place : ℕ) (next : ℕ → Line) (r : Line) → f ≡ number.Value n → next n ≡ r → field f place next ≡ r
+field-reads f n place next r e h = rw e h
 
-go-word : (f w : Word) (n servers tasks : ℕ) (line : List ℕ) (r : Line) → f ≡ w → byWord w n servers tasks line ≡ r → byWord f n servers tasks line ≡ r
-go-word f w n servers tasks line r e h = rw e h
+kind-reads : (f : KindField) (k : Kind) (place : ℕ) (next : Kind → Line) (r : Line) → f ≡ kind.Is k → next k ≡ r → kindField f place next ≡ r
+kind-reads f k place next r e h = rw e h
 
-go-past : {A : Type 0} (b : Bool) (x y r : A) → b ≡ false → y ≡ r → pick b x y ≡ r
-go-past b x y r e h = rw e h
+word-reads : (f w : Word) (n servers tasks : ℕ) (line : List ℕ) (r : Line) → f ≡ w → byWord w n servers tasks line ≡ r → byWord f n servers tasks line ≡ r
+word-reads f w n servers tasks line r e h = rw e h
 
 and-both : (a b : Bool) → a ≡ true → b ≡ true → (a && b) ≡ true
 and-both a b p q = rw (p, q)
@@ -96,7 +97,7 @@ module _ (line : List ℕ) (fs : List (List ℕ)) (e : fieldsOf line ≡ fs) whe
   no-dash i n h = ap (λ (g : List (List ℕ)). sameBytes (getD g i []) dash) e ∙ ap (λ (f : List ℕ). sameBytes f dash) h ∙ decimal-word n
 
   deadline-of : (i n p : ℕ) → getD fs i [] ≡ decimal n → n ≤ 16000 → deadlineOf (getD (fieldsOf line) i []) p ≡ number.Value n
-  deadline-of i n p h k = go-past _ _ _ _ (no-dash i n h) (number-of i n h k)
+  deadline-of i n p h k = picks-second _ _ _ _ (no-dash i n h) (number-of i n h k)
 
   kind-of : (k : Kind) → getD fs 1 [] ≡ kindWord k → kindOf (fieldAt line 2) ≡ kind.Is k
   kind-of k h = ap (λ (g : List (List ℕ)). kindOf (getD g 1 [])) e ∙ ap kindOf h ∙ kind-back k
@@ -113,11 +114,11 @@ unfolding sameBytes spanLine
 span-read H servers tasks h =
     let line = joined (spanFields H) in
     let e : fieldsOf line ≡ spanFields H = fields-back _ _ (span-clear H) in
-    go-word _ word.Span 1 servers tasks line _ (word-of line _ e word.Span refl)
-    (go-pick _ _ _ _ (count-of line _ e 2 refl)
-    (go-past _ _ _ _ (no-dash line _ e 1 H refl)
-    (go-field _ H 2 _ _ (number-of line _ e 1 H refl (top H h))
-    (go-pick _ _ _ _ h refl))))
+    word-reads _ word.Span 1 servers tasks line _ (word-of line _ e word.Span refl)
+    (picks-first _ _ _ _ (count-of line _ e 2 refl)
+    (picks-second _ _ _ _ (no-dash line _ e 1 H refl)
+    (field-reads _ H 2 _ _ (number-of line _ e 1 H refl (top H h))
+    (picks-first _ _ _ _ h refl))))
 
 -- ---- `server`
 
@@ -130,15 +131,15 @@ server-read s n servers k r h =
     let rest : (inTicks (s .period) && leb (s .capacity) (s .period)) ≡ true = and-right (inTicks (s .capacity)) _ h in
     let t : inTicks (s .period) ≡ true = and-left (inTicks (s .period)) _ rest in
     let ct : leb (s .capacity) (s .period) ≡ true = and-right (inTicks (s .period)) _ rest in
-    go-word _ word.Server n servers 0 line _ (word-of line _ e word.Server refl)
-    (go-pick _ _ _ _ (and-both (ltb 1 n) true (lt-ltb 1 n k) refl)
-    (go-pick _ _ _ _ (lt-ltb servers 16 r)
-    (go-pick _ _ _ _ (count-of line _ e 4 refl)
-    (go-kind _ (s .kind) 2 _ _ (kind-of line _ e (s .kind) refl)
-    (go-field _ (s .capacity) 3 _ _ (number-of line _ e 2 (s .capacity) refl (top _ c))
-    (go-field _ (s .period) 4 _ _ (number-of line _ e 3 (s .period) refl (top _ t))
-    (go-pick _ _ _ _ (and-both (inTicks (s .capacity)) (leb (s .capacity) (s .period)) c ct)
-    (go-pick _ _ _ _ t refl))))))))
+    word-reads _ word.Server n servers 0 line _ (word-of line _ e word.Server refl)
+    (picks-first _ _ _ _ (and-both (ltb 1 n) true (lt-ltb 1 n k) refl)
+    (picks-first _ _ _ _ (lt-ltb servers 16 r)
+    (picks-first _ _ _ _ (count-of line _ e 4 refl)
+    (kind-reads _ (s .kind) 2 _ _ (kind-of line _ e (s .kind) refl)
+    (field-reads _ (s .capacity) 3 _ _ (number-of line _ e 2 (s .capacity) refl (top _ c))
+    (field-reads _ (s .period) 4 _ _ (number-of line _ e 3 (s .period) refl (top _ t))
+    (picks-first _ _ _ _ (and-both (inTicks (s .capacity)) (leb (s .capacity) (s .period)) c ct)
+    (picks-first _ _ _ _ t refl))))))))
 
 -- ---- `once` and `every`
 
@@ -156,18 +157,18 @@ module _ (n servers tasks : ℕ) (some : 0 < servers) (few : servers ≤ 16) (ro
   once-read s w i d g h =
       let line = joined (releasedFields (Once i) s w d) in
       let e : fieldsOf line ≡ releasedFields (Once i) s w d = fields-back _ _ (released-clear (Once i) s w d) in
-      go-word _ word.Once n servers tasks line _ (word-of line _ e word.Once refl)
-      (go-pick _ _ _ _ (lt-ltb 0 servers some)
-      (go-pick _ _ _ _ (lt-ltb tasks 64 room)
-      (go-pick _ _ _ _ (count-of line _ e 5 refl)
-      (go-field _ s 2 _ _ (number-of line _ e 1 s refl (g .low))
-      (go-field _ w 3 _ _ (number-of line _ e 2 w refl (top w (g .work)))
-      (go-field _ i 4 _ _ (number-of line _ e 3 i refl (leb-true i 16000 h))
-      (go-field _ d 5 _ _ (number-of line _ e 4 d refl (top d (g .deadline)))
-      (go-pick _ _ _ _ (g .server)
-      (go-pick _ _ _ _ (g .work)
-      (go-pick _ _ _ _ h
-      (go-pick _ _ _ _ (g .deadline) refl)))))))))))
+      word-reads _ word.Once n servers tasks line _ (word-of line _ e word.Once refl)
+      (picks-first _ _ _ _ (lt-ltb 0 servers some)
+      (picks-first _ _ _ _ (lt-ltb tasks 64 room)
+      (picks-first _ _ _ _ (count-of line _ e 5 refl)
+      (field-reads _ s 2 _ _ (number-of line _ e 1 s refl (g .low))
+      (field-reads _ w 3 _ _ (number-of line _ e 2 w refl (top w (g .work)))
+      (field-reads _ i 4 _ _ (number-of line _ e 3 i refl (leb-true i 16000 h))
+      (field-reads _ d 5 _ _ (number-of line _ e 4 d refl (top d (g .deadline)))
+      (picks-first _ _ _ _ (g .server)
+      (picks-first _ _ _ _ (g .work)
+      (picks-first _ _ _ _ h
+      (picks-first _ _ _ _ (g .deadline) refl)))))))))))
 
   every-read : (s w o p d : ℕ) → Ranges servers s w d → leb o 16000 ≡ true → inTicks p ≡ true
       → lineOf n servers tasks (joined (releasedFields (Every o p) s w d)) ≡ TaskIs (record { server = s; work = w; release = Every o p; deadline = d })
@@ -175,20 +176,20 @@ module _ (n servers tasks : ℕ) (some : 0 < servers) (few : servers ≤ 16) (ro
   every-read s w o p d g h q =
       let line = joined (releasedFields (Every o p) s w d) in
       let e : fieldsOf line ≡ releasedFields (Every o p) s w d = fields-back _ _ (released-clear (Every o p) s w d) in
-      go-word _ word.Every n servers tasks line _ (word-of line _ e word.Every refl)
-      (go-pick _ _ _ _ (lt-ltb 0 servers some)
-      (go-pick _ _ _ _ (lt-ltb tasks 64 room)
-      (go-pick _ _ _ _ (count-of line _ e 6 refl)
-      (go-field _ s 2 _ _ (number-of line _ e 1 s refl (g .low))
-      (go-field _ w 3 _ _ (number-of line _ e 2 w refl (top w (g .work)))
-      (go-field _ o 4 _ _ (number-of line _ e 3 o refl (leb-true o 16000 h))
-      (go-field _ p 5 _ _ (number-of line _ e 4 p refl (top p q))
-      (go-field _ d 6 _ _ (deadline-of line _ e 5 d p refl (top d (g .deadline)))
-      (go-pick _ _ _ _ (g .server)
-      (go-pick _ _ _ _ (g .work)
-      (go-pick _ _ _ _ h
-      (go-pick _ _ _ _ q
-      (go-pick _ _ _ _ (g .deadline) refl)))))))))))))
+      word-reads _ word.Every n servers tasks line _ (word-of line _ e word.Every refl)
+      (picks-first _ _ _ _ (lt-ltb 0 servers some)
+      (picks-first _ _ _ _ (lt-ltb tasks 64 room)
+      (picks-first _ _ _ _ (count-of line _ e 6 refl)
+      (field-reads _ s 2 _ _ (number-of line _ e 1 s refl (g .low))
+      (field-reads _ w 3 _ _ (number-of line _ e 2 w refl (top w (g .work)))
+      (field-reads _ o 4 _ _ (number-of line _ e 3 o refl (leb-true o 16000 h))
+      (field-reads _ p 5 _ _ (number-of line _ e 4 p refl (top p q))
+      (field-reads _ d 6 _ _ (deadline-of line _ e 5 d p refl (top d (g .deadline)))
+      (picks-first _ _ _ _ (g .server)
+      (picks-first _ _ _ _ (g .work)
+      (picks-first _ _ _ _ h
+      (picks-first _ _ _ _ q
+      (picks-first _ _ _ _ (g .deadline) refl)))))))))))))
 
   released-read : (r : Release) (s w d : ℕ) → Ranges servers s w d → releaseObeys r ≡ true
       → lineOf n servers tasks (joined (releasedFields r s w d)) ≡ TaskIs (record { server = s; work = w; release = r; deadline = d })
