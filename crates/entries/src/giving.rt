@@ -6,6 +6,7 @@ use table::Task;
 ghost use mathlib.Core.Path.{_≡_};
 ghost use Rattle.entries.specs.Entries.{kindNumber, serverRow, releaseNumber, releaseFirst, releasePeriod, taskRow};
 
+// A server's kind as a number.
 fn kind_number(kind: Kind) -> u32
     ensures { λ r. ⌜ r ≡ kindNumber kind ⌝ }
 {
@@ -15,6 +16,7 @@ fn kind_number(kind: Kind) -> u32
     }
 }
 
+// A server's row: kind, capacity, period.
 pub fn server_row(server: Server) -> [u32; 3]
     ensures { λ r. ⌜ r ≡ serverRow server ⌝ }
 {
@@ -23,6 +25,7 @@ pub fn server_row(server: Server) -> [u32; 3]
     [number, server.capacity, server.period]
 }
 
+// A task's kind of release as a number.
 fn release_number(release: Release) -> u32
     ensures { λ r. ⌜ r ≡ releaseNumber release ⌝ }
 {
@@ -32,6 +35,7 @@ fn release_number(release: Release) -> u32
     }
 }
 
+// The instant or the offset.
 fn release_first(release: Release) -> u32
     ensures { λ r. ⌜ r ≡ releaseFirst release ⌝ }
 {
@@ -41,6 +45,7 @@ fn release_first(release: Release) -> u32
     }
 }
 
+// The period; 0 where there is none.
 fn release_period(release: Release) -> u32
     ensures { λ r. ⌜ r ≡ releasePeriod release ⌝ }
 {
@@ -50,6 +55,7 @@ fn release_period(release: Release) -> u32
     }
 }
 
+// A task's row: server, work, kind of release, its two numbers, deadline.
 pub fn task_row(task: Task) -> [u32; 6]
     ensures { λ r. ⌜ r ≡ taskRow task ⌝ }
 {

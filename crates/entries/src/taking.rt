@@ -21,6 +21,7 @@ fn no_server() -> Server
     }
 }
 
+// The server of a kind, if there is such a kind.
 fn server_from(number: u32, capacity: u32, period: u32) -> Server
     ensures { λ r. ⌜ r ≡ serverFrom number capacity period ⌝ }
 {
@@ -83,6 +84,7 @@ fn no_task() -> Task
     }
 }
 
+// The task of a kind of release, if there is such a kind.
 fn task_from(server: u32, work: u32, kind: u32, first: u32, period: u32, deadline: u32) -> Task
     ensures { λ r. ⌜ r ≡ taskFrom server work kind first period deadline ⌝ }
 {
