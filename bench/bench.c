@@ -21,11 +21,11 @@ static uint32_t work[6][GROD_ROOM];
 
 static void analyse(const uint8_t *text, size_t n, struct answers *out)
 {
-    uint32_t line;
+    uint32_t line, place;
     uint32_t number = grod_analyse(text, n, work[0], GROD_ROOM, work[1], GROD_ROOM, work[2], GROD_ROOM, work[3], GROD_ROOM, work[4], GROD_ROOM, work[5],
-                                   GROD_ROOM, &line, &out->span, &out->servers_n, &out->tasks_n, out->servers, out->tasks, out->margin);
+                                   GROD_ROOM, &line, &place, &out->span, &out->servers_n, &out->tasks_n, out->servers, out->tasks, out->margin);
     if (number != 0) {
-        printf("refused %u %u\n", (unsigned)number, (unsigned)line);
+        printf("refused %u %u %u\n", (unsigned)number, (unsigned)line, (unsigned)place);
         exit(1);
     }
 }
@@ -33,10 +33,10 @@ static void analyse(const uint8_t *text, size_t n, struct answers *out)
 /* Reading alone, which the analysis does first, and handing out what was read. */
 static void read_only(const uint8_t *text, size_t n, struct answers *out)
 {
-    uint32_t line;
+    uint32_t line, place;
     struct grod_server servers[GROD_SERVERS];
     struct grod_task tasks[GROD_TASKS];
-    grod_read(text, n, &line, &out->span, &out->servers_n, &out->tasks_n, servers, tasks);
+    grod_read(text, n, &line, &place, &out->span, &out->servers_n, &out->tasks_n, servers, tasks);
 }
 
 /* Clearing alone, which the analysis does last. */

@@ -17,12 +17,41 @@ words() { # NUMBER COLUMN
         there && $2 == number { print $column }' README.md
 }
 
-# Says on standard error why a table is refused, and shows the line, as far as 200 bytes; there is none behind the last.
-explain() { # NAME FILE NUMBER LINE
+# What the fields behind a line's first word are called.
+declare -A fields=(
+    [span]='span'
+    [server]='kind capacity period'
+    [once]='server work instant deadline'
+    [every]='server work offset period deadline'
+)
+
+# The name of the field at a place.
+name_field() { # FILE LINE PLACE
+    local first
+    first=$(sed -n "$2p" "$1" | cut -f 1)
+    cut -d ' ' -f $(($3 - 1)) <<<"${fields[$first]}"
+}
+
+# Shows a line, control bytes spelt out, as far as 200 bytes; there is none behind the last. Under the field at a place, if one is meant and shown,
+# stands a mark: the tabs before it are repeated, so that it stands there whatever their width.
+show_line() { # FILE LINE PLACE
+    sed -n "$2p" "$1" | cat -v | cut -b 1-200 | awk -F '\t' -v place="$3" '
+        function all(sign, field) { gsub(/./, sign, field); return field }
+        { print "    " $0 }
+        place > 0 && place <= NF {
+            mark = $place == "" ? "^" : all("^", $place)
+            while (--place > 0) mark = all(" ", $place) "\t" mark
+            print "    " mark
+        }'
+}
+
+# Says on standard error why a table is refused, and shows the line.
+explain() { # NAME FILE NUMBER LINE PLACE
     local where=
     [ "$4" -eq 0 ] || where=", line $4"
+    [ "$5" -eq 0 ] || where="$where, field $5, $(name_field "$2" "$4" "$5")"
     echo "$self: $1: refused $3$where: $(words "$3" 3)" >&2
-    [ "$4" -eq 0 ] || sed -n "$4s/^/    /p" "$2" | LC_ALL=C cut -b 1-200 | cat -v >&2
+    [ "$4" -eq 0 ] || show_line "$2" "$4" "$5" >&2
     echo "    to mend it: $(words "$3" 4)" >&2
 }
 
@@ -61,7 +90,7 @@ answer_tables() { # TABLE..
     . scripts/common.sh
     prove check "$self"
     find_starts
-    local status=0 i=0 name said word number line
+    local status=0 i=0 name said word number line place
     for name in "$@"; do
         i=$((i + 1))
         [ "$name" != - ] || name='standard input'
@@ -69,9 +98,9 @@ answer_tables() { # TABLE..
         said=$("${starts[@]}" "target/bin/$self" <"$room/$i")
         [ -n "$said" ] || { echo "$self: the program wrote nothing" >&2; exit 2; }
         printf '%s\n' "$said"
-        IFS=$'\t' read -r word number line <<<"$said"
+        IFS=$'\t' read -r word number line place <<<"$said"
         if [ "$word" = refused ]; then
-            explain "$name" "$room/$i" "$number" "$line"
+            explain "$name" "$room/$i" "$number" "$line" "$place"
             status=1
         fi
     done

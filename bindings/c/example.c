@@ -41,11 +41,13 @@ static uint8_t text[4097];
 /* the six work buffers: too large for some stacks, so they are static */
 static uint32_t work[6][GROD_ROOM];
 
-static int refused(const char *what, uint32_t number, uint32_t line)
+static int refused(const char *what, uint32_t number, uint32_t line, uint32_t place)
 {
     printf("%s: refused, number %u", what, (unsigned)number);
     if (line != 0)
         printf(", line %u", (unsigned)line);
+    if (place != 0)
+        printf(", field %u", (unsigned)place);
     printf("\n");
     return 1;
 }
@@ -80,11 +82,11 @@ static void say_task(size_t number, struct grod_task_answer task, int32_t margin
 static int analyse(size_t n)
 {
     struct answers a;
-    uint32_t line;
+    uint32_t line, place;
     uint32_t number = grod_analyse(text, n, work[0], GROD_ROOM, work[1], GROD_ROOM, work[2], GROD_ROOM, work[3], GROD_ROOM, work[4], GROD_ROOM,
-                                   work[5], GROD_ROOM, &line, &a.span, &a.servers_n, &a.tasks_n, a.servers, a.tasks, a.margin);
+                                   work[5], GROD_ROOM, &line, &place, &a.span, &a.servers_n, &a.tasks_n, a.servers, a.tasks, a.margin);
     if (number != 0)
-        return refused("table", number, line);
+        return refused("table", number, line, place);
     printf("span: %u ticks\n", (unsigned)a.span);
     for (size_t i = 0; i < a.servers_n; i++)
         say_server(i + 1, a.servers[i]);
@@ -107,11 +109,11 @@ static void say_who(uint32_t tick, uint32_t holder, uint32_t runner)
 /* The same of a tick of the text, from the curves. */
 static int ask(size_t n, uint32_t tick)
 {
-    uint32_t line, holder, runner;
+    uint32_t line, place, holder, runner;
     uint32_t number = grod_who_at(text, n, tick, work[0], GROD_ROOM, work[1], GROD_ROOM, work[2], GROD_ROOM, work[3], GROD_ROOM, work[4], GROD_ROOM,
-                                  work[5], GROD_ROOM, &line, &holder, &runner);
+                                  work[5], GROD_ROOM, &line, &place, &holder, &runner);
     if (number != 0)
-        return refused("tick", number, line);
+        return refused("tick", number, line, place);
     say_who(tick, holder, runner);
     return 0;
 }
@@ -128,21 +130,21 @@ static void say_refused(const char *what, const struct table *t, size_t room)
     size_t count = BEFORE;
     memset(before, BEFORE, sizeof before);
     memset(after, BEFORE, sizeof after);
-    refused(what, write_table(t, after, room, &count), 0);
+    refused(what, write_table(t, after, room, &count), 0, 0);
     printf(memcmp(before, after, sizeof after) == 0 && count == BEFORE ? "nothing was written\n" : "something was written\n");
 }
 
 /* Goes one tick on with the entries and with their text of `n` bytes, and says who runs. Answers 1 if it is not the same from both. */
 static int step_both(const struct table *t, struct state *entries, const uint8_t *written, size_t n, struct state *texts)
 {
-    uint32_t tick = entries->tick, line, holder, runner, text_holder, text_runner;
+    uint32_t tick = entries->tick, line, place, holder, runner, text_holder, text_runner;
     uint32_t number = grod_step_table(t->span, t->servers_n, t->tasks_n, t->servers, t->tasks, &entries->tick, entries->budgets, entries->waiting,
                                       &holder, &runner);
     if (number != 0)
-        return refused("step with entries", number, 0);
-    number = grod_step(written, n, &texts->tick, texts->budgets, texts->waiting, &line, &text_holder, &text_runner);
+        return refused("step with entries", number, 0, 0);
+    number = grod_step(written, n, &texts->tick, texts->budgets, texts->waiting, &line, &place, &text_holder, &text_runner);
     if (number != 0)
-        return refused("step with the text", number, line);
+        return refused("step with the text", number, line, place);
     say_who(tick, holder, runner);
     return holder != text_holder || runner != text_runner || memcmp(entries, texts, sizeof *entries) != 0;
 }
@@ -166,13 +168,13 @@ static int edit(size_t n)
     struct table t;
     uint8_t written[GROD_TEXT_MOST];
     size_t count;
-    uint32_t line, number = grod_read(text, n, &line, &t.span, &t.servers_n, &t.tasks_n, t.servers, t.tasks);
+    uint32_t line, place, number = grod_read(text, n, &line, &place, &t.span, &t.servers_n, &t.tasks_n, t.servers, t.tasks);
     if (number != 0)
-        return refused("table", number, line);
+        return refused("table", number, line, place);
     t.servers[0].capacity = 1;
     number = write_table(&t, written, sizeof written, &count);
     if (number != 0)
-        return refused("writing", number, 0);
+        return refused("writing", number, 0, 0);
     printf("with a capacity of 1 for server 1:\n");
     fwrite(written, 1, count, stdout);
     say_refused("with one byte too few", &t, count - 1);

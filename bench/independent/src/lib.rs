@@ -24,4 +24,10 @@ impl Refusal {
     pub fn plain(number: u32) -> Refusal {
         Refusal { number, line: 0, place: 0 }
     }
+
+    /// The words of a `refused` line: `refused`, number, line, place.
+    pub fn words(self, parting: char) -> String {
+        let Refusal { number, line, place } = self;
+        format!("refused{parting}{number}{parting}{line}{parting}{place}")
+    }
 }

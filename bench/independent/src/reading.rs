@@ -58,7 +58,8 @@ enum Span {
     Multiple,
 }
 
-/// The ground on which a line is refused, and the place of the field; the line's number is added by the caller.
+/// The ground on which a line is refused, and the field's place, the line's first word being 1; the line's number is added by the
+/// caller.
 struct Fault {
     number: u32,
     place: u32,
@@ -68,12 +69,17 @@ const UNKNOWN_LINE: Fault = Fault { number: 3, place: 0 };
 const WRONG_COUNT: Fault = Fault { number: 4, place: 0 };
 const TOO_MANY: Fault = Fault { number: 7, place: 0 };
 
-fn no_number(place: u32) -> Fault {
-    Fault { number: 5, place }
-}
+/// The numbers given on refusal of a field, with its place.
+const EMPTY: u32 = 5;
+const OUT_OF_RANGE: u32 = 6;
+const NO_DASH_ALLOWED: u32 = 14;
+const NO_DIGIT: u32 = 15;
+const LEADING_ZERO: u32 = 16;
+const TOO_MANY_DIGITS: u32 = 17;
+const UNKNOWN_KIND: u32 = 18;
 
 fn out_of_range(place: u32) -> Fault {
-    Fault { number: 6, place }
+    Fault { number: OUT_OF_RANGE, place }
 }
 
 /// Reads a table's text.
@@ -223,19 +229,33 @@ fn kind_of(field: &[u8], place: u32) -> Result<Kind, Fault> {
     match field {
         b"deferrable" => Ok(Kind::Deferrable),
         b"periodic" => Ok(Kind::Periodic),
-        _ => Err(no_number(place)),
+        b"" => Err(Fault { number: EMPTY, place }),
+        _ => Err(Fault { number: UNKNOWN_KIND, place }),
     }
 }
 
 /// One to five digits, no leading zero save `0` itself.
 fn number(field: &[u8], place: u32) -> Result<u32, Fault> {
-    let count_fits = (1..=5).contains(&field.len());
-    let all_digits = field.iter().all(|byte| byte.is_ascii_digit());
-    let leading_zero = field.len() > 1 && field[0] == b'0';
-    if !count_fits || !all_digits || leading_zero {
-        return Err(no_number(place));
+    match first_fault(field) {
+        Some(number) => Err(Fault { number, place }),
+        None => Ok(field.iter().fold(0, |value, digit| value * 10 + u32::from(digit - b'0'))),
     }
-    Ok(field.iter().fold(0, |value, digit| value * 10 + u32::from(digit - b'0')))
+}
+
+/// What is wrong with a field that has to be a number, in the order of the tests: 5, 14, 15, 16, 17.
+fn first_fault(field: &[u8]) -> Option<u32> {
+    let mut tests = [
+        (EMPTY, field.is_empty()),
+        (NO_DASH_ALLOWED, field == b"-"),
+        (NO_DIGIT, !field.iter().all(u8::is_ascii_digit)),
+        (LEADING_ZERO, field.len() > 1 && field[0] == b'0'),
+        (TOO_MANY_DIGITS, field.len() > 5),
+    ];
+    // the wrong build refuses a leading zero before a byte that is no digit
+    if cfg!(feature = "wrong") {
+        tests.swap(2, 3);
+    }
+    tests.into_iter().find(|(_, fails)| *fails).map(|(number, _)| number)
 }
 
 fn in_range(value: u32, least: u32, place: u32) -> Result<(), Fault> {

@@ -96,7 +96,7 @@ pub fn report(text: &[u8]) -> Vec<u8> {
 
 /// The line of a refusal.
 pub fn refused(refusal: Refusal) -> String {
-    format!("refused\t{}\t{}\n", refusal.number, refusal.line)
+    refusal.words('\t') + "\n"
 }
 
 /// The lines of an accepted report.

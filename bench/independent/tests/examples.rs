@@ -1,4 +1,4 @@
-//! The scope document's checked examples and edges, and those of writing back. The wrong build fails some of them.
+//! The scope document's checked examples and edges, and those of the requests. The wrong build fails some of them.
 
 use independent::analysis::{analyse, who_at};
 use independent::curves;
@@ -16,10 +16,22 @@ fn reported(shown: &str) -> String {
     String::from_utf8(report(&text(shown))).unwrap().replace('\t', " ").replace('\n', "/")
 }
 
-/// The number and the line of a refused text.
-fn refused(shown: &str) -> (u32, u32) {
-    let refusal = read(&text(shown)).unwrap_err();
-    (refusal.number, refusal.line)
+/// The number, the line and the place of a refused text.
+fn refused(shown: &str) -> (u32, u32, u32) {
+    let Refusal { number, line, place } = read(&text(shown)).unwrap_err();
+    (number, line, place)
+}
+
+/// The number and the place of a refused line in a table that is good otherwise.
+fn refused_line(line: &str) -> (u32, u32) {
+    let (before, behind) = match line.split(' ').next().unwrap() {
+        "span" => ("", "server periodic 1 2/once 1 1 0 1/"),
+        "server" => ("span 9/", "once 1 1 0 1/"),
+        _ => ("span 9/server periodic 1 2/", ""),
+    };
+    let (number, at, place) = refused(&format!("{before}{line}/{behind}"));
+    assert_eq!(at, 1 + before.matches('/').count() as u32);
+    (number, place)
 }
 
 /// The text of a text's table, written back.
@@ -104,15 +116,97 @@ fn edges_of_reading() {
     let rest = "/server periodic 1 125/every 1 1 0 128 -/";
     assert_eq!(read(&text(&format!("span -{rest}"))).unwrap().span, 16_000);
     assert_eq!(read(&text(&format!("span 16000{rest}"))).unwrap().span, 16_000);
-    assert_eq!(refused(&format!("span 16001{rest}")), (6, 1));
-    assert_eq!(refused(&format!("span 016{rest}")), (5, 1));
-    assert_eq!(refused("span -/server periodic 1 126/every 1 1 0 127 -/"), (8, 0));
-    assert_eq!(refused("span 9/server periodic 1 2/"), (3, 3));
-    assert_eq!(refused("span 9/once 1 1 1 1/"), (3, 2));
-    assert_eq!(refused("/"), (3, 1));
-    assert_eq!(refused(""), (2, 0));
-    assert_eq!(refused(&"a".repeat(4097)), (1, 0));
-    assert_eq!(refused(&"a".repeat(4096)), (2, 0));
+    assert_eq!(refused(&format!("span 16001{rest}")), (6, 1, 2));
+    assert_eq!(refused(&format!("span 016{rest}")), (16, 1, 2));
+    assert_eq!(reported(&format!("span 016{rest}")), "refused 16 1 2/");
+    assert_eq!(refused("span -/server periodic 1 126/every 1 1 0 127 -/"), (8, 0, 0));
+    assert_eq!(refused("span 9/server periodic 1 2/"), (3, 3, 0));
+    assert_eq!(refused("span 9/once 1 1 1 1/"), (3, 2, 0));
+    assert_eq!(refused("/"), (3, 1, 0));
+    assert_eq!(refused("span 9/server periodic 1/"), (4, 2, 0));
+    assert_eq!(refused(&format!("span 9/{}", "server periodic 1 2/".repeat(17))), (7, 18, 0));
+    assert_eq!(refused(""), (2, 0, 0));
+    assert_eq!(refused(&"a".repeat(4097)), (1, 0, 0));
+    assert_eq!(refused(&"a".repeat(4096)), (2, 0, 0));
+}
+
+/// Lines with `?` in the place of a number, each place of each kind of line once.
+#[rustfmt::skip]
+const OPEN_LINES: [&str; 12] = [
+    "span ?", "server periodic ? 2", "server periodic 1 ?", "once ? 1 0 1", "once 1 ? 0 1", "once 1 1 ? 1", "once 1 1 0 ?",
+    "every ? 1 0 1 1", "every 1 ? 0 1 1", "every 1 1 ? 1 1", "every 1 1 0 ? 1", "every 1 1 0 1 ?",
+];
+
+/// A line with a word in the open place, and this place.
+fn filled(line: &str, word: &str) -> (String, u32) {
+    let place = line.split(' ').position(|field| field == "?").unwrap();
+    (line.replace('?', word), place as u32 + 1)
+}
+
+#[test]
+fn faults_of_one_field() {
+    let words = [("", 5), ("x", 15), ("--", 15), ("-5", 15), ("0x", 15), ("00000x", 15), ("1234x6", 15), ("5\r", 15)];
+    let digits = [("016", 16), ("00", 16), ("000000", 16), ("012345", 16), ("123456", 17), ("99999", 6)];
+    for (word, number) in words.into_iter().chain(digits) {
+        for (line, place) in OPEN_LINES.map(|line| filled(line, word)) {
+            assert_eq!(refused_line(&line), (number, place));
+        }
+    }
+}
+
+#[test]
+fn where_a_dash_is_allowed() {
+    assert!(read(&text("span -/server periodic 1 2/every 1 1 0 2 -/")).is_ok());
+    for (line, place) in OPEN_LINES[1..11].iter().map(|line| filled(line, "-")) {
+        assert_eq!(refused_line(&line), (14, place));
+    }
+    assert_eq!(refused_line("every 1 1 0 - -"), (14, 5));
+    // a period that is out of range is not refused a second time as the deadline
+    assert_eq!(refused_line("every 1 1 0 0 -"), (6, 5));
+}
+
+#[test]
+fn kinds_of_servers() {
+    assert_eq!(refused_line("server  1 2"), (5, 2));
+    for kind in ["-", "x", "Periodic", "DEFERRABLE", "periodic\r", "periodi", "0", "01", "123456"] {
+        assert_eq!(refused_line(&format!("server {kind} 1 2")), (18, 2));
+    }
+}
+
+#[test]
+fn ranges_of_a_line() {
+    // an instant and an offset may be 0
+    for line in OPEN_LINES.into_iter().filter(|line| !["once 1 1 ? 1", "every 1 1 ? 1 1"].contains(line)) {
+        let (line, place) = filled(line, "0");
+        // a period of 0 is below every capacity
+        assert_eq!(refused_line(&line), (6, if line == "server periodic 1 0" { 3 } else { place }));
+    }
+    for (line, place) in OPEN_LINES.map(|line| filled(line, "16001")) {
+        assert_eq!(refused_line(&line), (6, place));
+    }
+    assert_eq!(refused_line("once 2 1 0 1"), (6, 2));
+    // a capacity above its period concerns the capacity, whatever the period
+    for line in ["server periodic 3 2", "server periodic 1 0", "server periodic 16000 15999", "server periodic 16002 16001"] {
+        assert_eq!(refused_line(line), (6, 3));
+    }
+}
+
+#[test]
+fn several_faults_in_a_line() {
+    // every other fault goes before a number out of range to its left
+    for (word, number) in [("", 5), ("-", 14), ("x", 15), ("01", 16), ("123456", 17)] {
+        assert_eq!(refused_line(&format!("once 0 0 16001 {word}")), (number, 5));
+        assert_eq!(refused_line(&format!("server periodic 3 {word}")), (number, 4));
+        // the left one of two that are the same
+        assert_eq!(refused_line(&format!("every 1 {word} 0 {word} -")), (number, 3));
+    }
+    assert_eq!(refused_line("once 0 0 16001 0"), (6, 2));
+    // the left one of two that differ, whichever is tested first in a field
+    assert_eq!(refused_line("once 1 123456  -"), (17, 3));
+    assert_eq!(refused_line("once 1 01 x -"), (16, 3));
+    assert_eq!(refused_line("every - 0x 01 123456 "), (14, 2));
+    assert_eq!(refused_line("server x  -"), (18, 2));
+    assert_eq!(refused_line("server  x -"), (5, 2));
 }
 
 #[test]

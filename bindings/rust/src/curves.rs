@@ -7,7 +7,7 @@ pub fn add(a: &[u32], b: &[u32], out: &mut [u32]) -> Result<usize, Refusal> {
     let mut count = 0;
     // SAFETY: each pointer and length is of one slice; `out` and `count` are borrowed for this call alone.
     let number = unsafe { raw::grod_add(a.as_ptr(), a.len(), b.as_ptr(), b.len(), out.as_mut_ptr(), out.len(), &mut count) };
-    accepted(number, 0, count)
+    accepted(Refusal::without_line(number), count)
 }
 
 /// Cuts a curve at the multiples of a period. Writes the result to the front of `out`, and answers how many numbers it has. Refuses 12, 10, 11.
@@ -15,7 +15,7 @@ pub fn cut(curve: &[u32], period: u32, out: &mut [u32]) -> Result<usize, Refusal
     let mut count = 0;
     // SAFETY: as in `add`.
     let number = unsafe { raw::grod_cut(curve.as_ptr(), curve.len(), period, out.as_mut_ptr(), out.len(), &mut count) };
-    accepted(number, 0, count)
+    accepted(Refusal::without_line(number), count)
 }
 
 /// How many numbers fitting wrote: supply left, served, demand left.
@@ -48,7 +48,7 @@ pub fn fit(demand: &[u32], supply: &[u32], left: &mut [u32], served: &mut [u32],
             &mut n.rest,
         )
     };
-    accepted(number, 0, n)
+    accepted(Refusal::without_line(number), n)
 }
 
 /// The instant at which a curve has given `amount` ticks, or `None` if it gives fewer. Refuses 12, 10.
@@ -57,5 +57,5 @@ pub fn time_to_provide(curve: &[u32], amount: u32) -> Result<Option<u32>, Refusa
     // SAFETY: the pointer and length are of one slice; `instant` is borrowed for this call alone.
     let number = unsafe { raw::grod_time_to_provide(curve.as_ptr(), curve.len(), amount, &mut instant) };
     // an amount is at least 1, so the instant is never 0
-    accepted(number, 0, Some(instant).filter(|&at| at != 0))
+    accepted(Refusal::without_line(number), Some(instant).filter(|&at| at != 0))
 }

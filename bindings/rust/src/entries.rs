@@ -116,9 +116,9 @@ impl Rows {
     }
 }
 
-/// Reads a text: a span or a deadline that is `-` becomes its number. Refuses 1 to 8.
+/// Reads a text: a span or a deadline that is `-` becomes its number. Refuses 1 to 8 and 14 to 18.
 pub fn read(text: &[u8]) -> Result<Table, Refusal> {
-    let mut line = 0;
+    let (mut line, mut place) = (0, 0);
     let mut rows = Rows::new();
     let extent = &mut rows.extent;
     // SAFETY: the pointer and length are of one slice; there are 16 and 64 rows; what is written is borrowed for this call alone.
@@ -127,6 +127,7 @@ pub fn read(text: &[u8]) -> Result<Table, Refusal> {
             text.as_ptr(),
             text.len(),
             &mut line,
+            &mut place,
             &mut extent.span,
             &mut extent.servers,
             &mut extent.tasks,
@@ -134,7 +135,7 @@ pub fn read(text: &[u8]) -> Result<Table, Refusal> {
             rows.tasks.as_mut_ptr(),
         )
     };
-    accepted(number, line, ()).map(|()| rows.table())
+    accepted(Refusal { number, line, place }, ()).map(|()| rows.table())
 }
 
 /// The text of a table, span and deadlines always as numbers. Reading it gives an equal table. Refuses 13, where the table breaks the rules.
@@ -154,7 +155,7 @@ pub fn write_into(table: &Table, out: &mut [u8]) -> Result<usize, Refusal> {
     // SAFETY: the pointer and length are of one slice; there are 16 and 64 rows; what is written is borrowed for this call alone.
     let number =
         unsafe { raw::grod_write(span, servers, tasks, rows.servers.as_ptr(), rows.tasks.as_ptr(), out.as_mut_ptr(), out.len(), &mut count) };
-    accepted(number, 0, count)
+    accepted(Refusal::without_line(number), count)
 }
 
 /// Goes one tick on with the machine of a table, as [`step`](crate::step) does with that of a text. Refuses 13, where the table breaks the rules too; the
@@ -178,5 +179,5 @@ pub fn step_table(table: &Table, state: &mut State) -> Result<Who, Refusal> {
             &mut who.runner,
         )
     };
-    accepted(number, 0, who)
+    accepted(Refusal::without_line(number), who)
 }

@@ -41,16 +41,23 @@ pub const REPORT: usize = 4096;
 /// Room for any text that [`write_into`] writes: it never has more bytes, by proof (`text-most`).
 pub const TEXT_MOST: usize = 2603;
 
-/// Why a call is refused: the number of the ground, and the line of the text, counted from 1, or 0 where no line is meant.
+/// Why a call is refused: the number of the ground; the line of the text, counted from 1, or 0 where no line is meant; and the place of the field in
+/// that line, the line's first word being 1, or 0 where no field is meant. The numbers 5, 6 and 14 to 18 have a place.
 #[derive(Clone, Copy, Debug, PartialEq, Eq)]
 pub struct Refusal {
     pub number: u32,
     pub line: u32,
+    pub place: u32,
 }
 
 impl Refusal {
     /// What every call answers where the library is not linked in. No call of the library gives this number.
-    pub const UNAVAILABLE: Refusal = Refusal { number: u32::MAX, line: 0 };
+    pub const UNAVAILABLE: Refusal = Refusal::without_line(u32::MAX);
+
+    /// Of a call that hands out a number only.
+    const fn without_line(number: u32) -> Refusal {
+        Refusal { number, line: 0, place: 0 }
+    }
 }
 
 impl std::fmt::Display for Refusal {
@@ -58,17 +65,17 @@ impl std::fmt::Display for Refusal {
         if *self == Refusal::UNAVAILABLE {
             return out.write_str("unavailable: the library is not linked in");
         }
-        write!(out, "refused {} {}", self.number, self.line)
+        write!(out, "refused {} {} {}", self.number, self.line, self.place)
     }
 }
 
 impl std::error::Error for Refusal {}
 
 /// What was answered, if the number that a call gave is 0.
-fn accepted<T>(number: u32, line: u32, answer: T) -> Result<T, Refusal> {
-    if number == 0 {
+fn accepted<T>(given: Refusal, answer: T) -> Result<T, Refusal> {
+    if given.number == 0 {
         Ok(answer)
     } else {
-        Err(Refusal { number, line })
+        Err(given)
     }
 }

@@ -23,9 +23,10 @@ pub struct Who {
     pub runner: u32,
 }
 
-/// Goes one tick on with the machine of a text's table. Refuses 1 to 8, 13; the state is then as it was, and nobody is said to hold the tick or to run.
+/// Goes one tick on with the machine of a text's table. Refuses 1 to 8 and 14 to 18, then 13; the state is then as it was, and nobody is said to hold
+/// the tick or to run.
 pub fn step(text: &[u8], state: &mut State) -> Result<Who, Refusal> {
-    let mut line = 0;
+    let (mut line, mut place) = (0, 0);
     let mut who = Who::default();
     // SAFETY: the pointer and length are of one slice; the arrays have 16 and 64 numbers; what is written is borrowed for this call alone.
     let number = unsafe {
@@ -36,11 +37,12 @@ pub fn step(text: &[u8], state: &mut State) -> Result<Who, Refusal> {
             state.budgets.as_mut_ptr(),
             state.waiting.as_mut_ptr(),
             &mut line,
+            &mut place,
             &mut who.holder,
             &mut who.runner,
         )
     };
-    accepted(number, line, who)
+    accepted(Refusal { number, line, place }, who)
 }
 
 /// Six work buffers that hold enough.
@@ -64,10 +66,10 @@ impl Default for Room {
 }
 
 /// Who holds a tick of the span and who runs in it, from the curves. Six work buffers of at least [`ROOM`] numbers are lent; every number of them is 0
-/// after an accepted call. Refuses 9, 1 to 8, 13.
+/// after an accepted call. Refuses 9, then 1 to 8 and 14 to 18, then 13.
 pub fn who_at(text: &[u8], tick: u32, work: [&mut [u32]; 6]) -> Result<Who, Refusal> {
     let [free, sum, part, held, running, spare] = work;
-    let mut line = 0;
+    let (mut line, mut place) = (0, 0);
     let mut who = Who::default();
     // SAFETY: each pointer and length is of one slice; what is written is borrowed for this call alone.
     let number = unsafe {
@@ -88,11 +90,12 @@ pub fn who_at(text: &[u8], tick: u32, work: [&mut [u32]; 6]) -> Result<Who, Refu
             spare.as_mut_ptr(),
             spare.len(),
             &mut line,
+            &mut place,
             &mut who.holder,
             &mut who.runner,
         )
     };
-    accepted(number, line, who)
+    accepted(Refusal { number, line, place }, who)
 }
 
 /// What is answered of a server: how many full periods the span has, and the first of them, from 0, that has fewer free ticks than the capacity.
@@ -158,10 +161,10 @@ impl Handed {
     }
 }
 
-/// The answers of all servers and tasks. Work buffers as for [`who_at`]. Refuses 9, 1 to 8.
+/// The answers of all servers and tasks. Work buffers as for [`who_at`]. Refuses 9, then 1 to 8 and 14 to 18.
 pub fn analyse(text: &[u8], work: [&mut [u32]; 6]) -> Result<Answers, Refusal> {
     let [free, sum, part, held, running, spare] = work;
-    let mut line = 0;
+    let (mut line, mut place) = (0, 0);
     let mut handed = Handed::new();
     // SAFETY: each pointer and length is of one slice; the arrays have 16 and 64 entries; what is written is borrowed for this call alone.
     let number = unsafe {
@@ -181,6 +184,7 @@ pub fn analyse(text: &[u8], work: [&mut [u32]; 6]) -> Result<Answers, Refusal> {
             spare.as_mut_ptr(),
             spare.len(),
             &mut line,
+            &mut place,
             &mut handed.extent.span,
             &mut handed.extent.servers,
             &mut handed.extent.tasks,
@@ -189,14 +193,14 @@ pub fn analyse(text: &[u8], work: [&mut [u32]; 6]) -> Result<Answers, Refusal> {
             handed.margin.as_mut_ptr(),
         )
     };
-    accepted(number, line, ()).map(|()| handed.answers())
+    accepted(Refusal { number, line, place }, ()).map(|()| handed.answers())
 }
 
 /// Writes the report of a text, as the report program prints it, to the front of `out`, and answers how many bytes it has. The report of a refused text is
-/// the line `refused`, number, line. Takes some 410,000 bytes of stack. Refuses 11, where the report does not fit.
+/// the line `refused`, number, line, place. Takes some 410,000 bytes of stack. Refuses 11, where the report does not fit.
 pub fn report(text: &[u8], out: &mut [u8]) -> Result<usize, Refusal> {
     let mut count = 0;
     // SAFETY: each pointer and length is of one slice; what is written is borrowed for this call alone.
     let number = unsafe { raw::grod_report(text.as_ptr(), text.len(), out.as_mut_ptr(), out.len(), &mut count) };
-    accepted(number, 0, count)
+    accepted(Refusal::without_line(number), count)
 }

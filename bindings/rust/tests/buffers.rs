@@ -48,9 +48,9 @@ fn unchanged_after_a_refused_call() {
     for lent in ENOUGH {
         let before = buffers(lent);
         let mut after = before.clone();
-        assert_eq!(analyse(BAD, lend(&mut after)), Err(Refusal { number: 6, line: 2 }));
-        assert_eq!(who_at(BAD, 5, lend(&mut after)), Err(Refusal { number: 6, line: 2 }));
-        assert_eq!(who_at(TEXT, 8, lend(&mut after)), Err(Refusal { number: 13, line: 0 }));
+        assert_eq!(analyse(BAD, lend(&mut after)), Err(Refusal { number: 6, line: 2, place: 3 }));
+        assert_eq!(who_at(BAD, 5, lend(&mut after)), Err(Refusal { number: 6, line: 2, place: 3 }));
+        assert_eq!(who_at(TEXT, 8, lend(&mut after)), Err(Refusal { number: 13, line: 0, place: 0 }));
         assert!(after == before);
     }
 }
@@ -65,8 +65,8 @@ fn too_short_each_in_turn() {
             let before = buffers(lent);
             let mut after = before.clone();
             // 9 is tested before the text
-            assert_eq!(analyse(BAD, lend(&mut after)), Err(Refusal { number: 9, line: 0 }));
-            assert_eq!(who_at(TEXT, 5, lend(&mut after)), Err(Refusal { number: 9, line: 0 }));
+            assert_eq!(analyse(BAD, lend(&mut after)), Err(Refusal { number: 9, line: 0, place: 0 }));
+            assert_eq!(who_at(TEXT, 5, lend(&mut after)), Err(Refusal { number: 9, line: 0, place: 0 }));
             assert!(after == before);
         }
     }

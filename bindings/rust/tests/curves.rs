@@ -5,7 +5,7 @@ use grodvejas::{add, cut, fit, time_to_provide, Fitted, Refusal};
 const BEFORE: u32 = 7_000_000;
 
 fn refused<T>(number: u32) -> Result<T, Refusal> {
-    Err(Refusal { number, line: 0 })
+    Err(Refusal { number, line: 0, place: 0 })
 }
 
 /// The sum of two curves, when the rest of the buffer stays as it was.

@@ -9,8 +9,8 @@ const TEXTS: [&[u8]; 4] = [
     include_bytes!("../../../tables/d.txt"),
 ];
 
-const NO_ROOM: Refusal = Refusal { number: 11, line: 0 };
-const BROKEN: Refusal = Refusal { number: 13, line: 0 };
+const NO_ROOM: Refusal = Refusal { number: 11, line: 0, place: 0 };
+const BROKEN: Refusal = Refusal { number: 13, line: 0, place: 0 };
 
 /// What stands in every place of a buffer before a call.
 const BEFORE: u8 = b'#';

@@ -8,6 +8,7 @@ use native.Mathlib.Nat.{div-le-self}
 use lib.IntN.{natAbs}
 use lib.ListN.{length, getD}
 use Rattle.basics.specs.Choice.{pick}
+use Rattle.refusals.specs.Refusals.{lastNumber, lastPlace}
 use Rattle.table.specs.declared.Release.{Release}
 use Rattle.table.specs.declared.Table.{Table}
 use Rattle.table.specs.Places.{serverAt, taskAt, Obeyed}
@@ -49,8 +50,9 @@ pub record ServerWithin (answer : ServerAnswer) : Type 0 where
 
 -- all that an analysis counts, and the refusal of a text of at most 4,096 lines
 pub record Within (a : Analysis) : Type 0 where
-  pub number : a .refusal .number ≤ 13
+  pub number : a .refusal .number ≤ lastNumber
   pub line : a .refusal .line ≤ 4097
+  pub place : a .refusal .place ≤ lastPlace
   pub span : a .span ≤ 16000
   pub of-server : (i : ℕ) → i < a .«servers_n» → ServerWithin (getD (a .servers) i noServerAnswer)
   pub of-task : (k : ℕ) → k < a .«tasks_n» → ResponseWithin (getD (a .tasks) k noTaskAnswer .response)

@@ -13,11 +13,12 @@ pub const LENT: usize = 4096;
 // How many bytes the array has whose front is lent: a guard of 8 behind the largest lent part.
 pub const GUARDED: usize = 4104;
 
-// Puts a refusal: its number and line.
+// Puts a refusal: its number, line and place.
 pub fn put_refused(out: &mut [u8; 65536], n: usize, refusal: Refusal) -> usize {
     let mut m = put_word(out, n, b"refused");
     m = put_number(out, m, refusal.number as u64);
-    put_number(out, m, refusal.line as u64)
+    m = put_number(out, m, refusal.line as u64);
+    put_number(out, m, refusal.place as u64)
 }
 
 // Puts what a call answered that writes to a lent buffer.

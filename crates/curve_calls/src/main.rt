@@ -3,7 +3,7 @@
 //     2 period na a.. room         cutting
 //     3 nd d.. ns s.. r1 r2 r3     fitting a demand into a supply, with room for supply left, served, demand left
 //     4 amount na a..              time to provide
-// The answer is `count n`, `counts l s r`, `at t`, `not provided`, or `refused number line`; behind it stands ` |` and the numbers of each lent
+// The answer is `count n`, `counts l s r`, `at t`, `not provided`, or `refused number line place`; behind it stands ` |` and the numbers of each lent
 // buffer. A line of any other form is answered by `bad`, and so is one of more than 1,048,576 bytes, its line feed counted. The input may have any
 // length, and its last line needs no line feed.
 use batch::INPUT;

@@ -1,14 +1,17 @@
--- Each exported call has one outcome for each input: any two that its contract permits are equal, in the number and in all that is handed out or
--- lent. Assumes nothing.
+-- Each exported call has one outcome for each input: any two that its contract permits are equal, in the number, or number, line and place, and in
+-- all that is handed out or lent. Assumes nothing.
 use Prim.Native.Nat.{ℕ}
 use mathlib.Core.Path.{_≡_, sym, ap, _∙_}
 use mathlib.Core.List.{List}
 use Rattle.refusals.specs.Outcomes.{Outcome}
+use Rattle.refusals.specs.declared.Refusal.{Refusal}
 use Rattle.machine.specs.declared.State.{State}
 use Rattle.machine.specs.declared.Stepped.{Stepped}
 use Rattle.scheduling.proofs.Outcomes.{Same, same-all}
-use Rattle.handing.specs.Handing.{given, HandsStep, Counted, Listed}
-use Rattle.grodvejas.specs.Calls.{Wrote, Fits, Provides, Reads, Steps, Tells, Analyses}
+use Rattle.giving.specs.Giving.{given, HandsStep, Counted}
+use Rattle.giving.proofs.Given.{same-number}
+use Rattle.handing.specs.Handing.{Listed}
+use Rattle.grodvejas.specs.Calls.{Wrote, Fits, Provides, Reads, Steps, StepsTable, Tells, Analyses}
 
 -- ---- the calls that write one result: adding, cutting, the report and a table's text
 
@@ -37,17 +40,16 @@ provides-once curve amount instant p o = (p .number ∙ sym (o .number), p .reac
 
 -- ---- calls on a table
 
--- equal numbers hand out the same
-given-once : {A : Type 0} (new old : A) {x y : A} {r q : ℕ} → r ≡ q → x ≡ given r new old → y ≡ given q new old → x ≡ y
-given-once new old e p o = p ∙ ap (λ n. given n new old) e ∙ sym o
+-- equal refusals hand out the same
+given-once : {A : Type 0} (new old : A) {x y : A} {p q : Refusal} → p ≡ q → x ≡ given (p .number) new old → y ≡ given (q .number) new old → x ≡ y
+given-once new old e p o = p ∙ ap (λ (r : Refusal). given (r .number) new old) e ∙ sym o
 
-pub reads-once : (text : List ℕ) (n : Counted) (servers tasks : List ℕ) {r line₁ q line₂ : ℕ} {n₁ n₂ : Counted} {servers₁ tasks₁ servers₂ tasks₂ : List ℕ}
-    → Reads text n servers tasks r line₁ n₁ servers₁ tasks₁ → Reads text n servers tasks q line₂ n₂ servers₂ tasks₂
-    → (r ≡ q) × (line₁ ≡ line₂) × (n₁ ≡ n₂) × (servers₁ ≡ servers₂) × (tasks₁ ≡ tasks₂)
+pub reads-once : (text : List ℕ) (n : Counted) (servers tasks : List ℕ) {p q : Refusal} {n₁ n₂ : Counted} {servers₁ tasks₁ servers₂ tasks₂ : List ℕ}
+    → Reads text n servers tasks p n₁ servers₁ tasks₁ → Reads text n servers tasks q n₂ servers₂ tasks₂
+    → (p ≡ q) × (n₁ ≡ n₂) × (servers₁ ≡ servers₂) × (tasks₁ ≡ tasks₂)
 reads-once text n servers tasks p o =
-    let e = p .number ∙ sym (o .number) in (
+    let e = p .refusal-is ∙ sym (o .refusal-is) in (
       e,
-      p .in-line ∙ sym (o .in-line),
       λ i. record {
         span = given-once _ _ e (p .ticks) (o .ticks) i;
         servers = given-once _ _ e (p .servers-count) (o .servers-count) i;
@@ -57,38 +59,40 @@ reads-once text n servers tasks p o =
       given-once _ _ e (p .tasks-are) (o .tasks-are),
     )
 
--- of a table that is given by its rows
-pub step-once : {stepped : Stepped} {r holder₁ runner₁ q holder₂ runner₂ : ℕ} {after₁ after₂ : State} → HandsStep stepped r after₁ holder₁ runner₁
-    → HandsStep stepped q after₂ holder₂ runner₂ → (r ≡ q) × (after₁ ≡ after₂) × (holder₁ ≡ holder₂) × (runner₁ ≡ runner₂)
-step-once p o = (p .number ∙ sym (o .number), p .next ∙ sym (o .next), p .holds ∙ sym (o .holds), p .runs ∙ sym (o .runs))
+step-once : {stepped : Stepped} {p q : Refusal} {holder₁ runner₁ holder₂ runner₂ : ℕ} {after₁ after₂ : State} → HandsStep stepped p after₁ holder₁ runner₁
+    → HandsStep stepped q after₂ holder₂ runner₂ → (p ≡ q) × (after₁ ≡ after₂) × (holder₁ ≡ holder₂) × (runner₁ ≡ runner₂)
+step-once p o = (p .refusal-is ∙ sym (o .refusal-is), p .next ∙ sym (o .next), p .holds ∙ sym (o .holds), p .runs ∙ sym (o .runs))
 
-pub steps-once : (text : List ℕ) (before : State) {r line₁ holder₁ runner₁ q line₂ holder₂ runner₂ : ℕ} {after₁ after₂ : State}
-    → Steps text before r line₁ after₁ holder₁ runner₁ → Steps text before q line₂ after₂ holder₂ runner₂
-    → (line₁ ≡ line₂) × ((r ≡ q) × (after₁ ≡ after₂) × (holder₁ ≡ holder₂) × (runner₁ ≡ runner₂))
-steps-once text before p o = (p .in-line ∙ sym (o .in-line), step-once (p .step) (o .step))
+module _ (before : State) {holder₁ runner₁ holder₂ runner₂ : ℕ} {after₁ after₂ : State} where
+  pub steps-once : (text : List ℕ) {p q : Refusal} → Steps text before p after₁ holder₁ runner₁ → Steps text before q after₂ holder₂ runner₂
+      → (p ≡ q) × (after₁ ≡ after₂) × (holder₁ ≡ holder₂) × (runner₁ ≡ runner₂)
+  steps-once text p o = step-once p o
+
+  -- of a table that is given by its rows
+  pub steps-table-once : (n : Counted) (servers tasks : List ℕ) {r q : ℕ} → StepsTable n servers tasks before r after₁ holder₁ runner₁
+      → StepsTable n servers tasks before q after₂ holder₂ runner₂ → (r ≡ q) × (after₁ ≡ after₂) × (holder₁ ≡ holder₂) × (runner₁ ≡ runner₂)
+  steps-table-once n servers tasks p o = let once = step-once p o in (same-number (once .0), once .1, once .2, once .3)
 
 -- ---- calls on a text and six work buffers
 
 module _ (text a b c d e f : List ℕ) {a₁ b₁ c₁ d₁ e₁ f₁ a₂ b₂ c₂ d₂ e₂ f₂ : List ℕ} where
-  pub tells-once : (tick holder runner : ℕ) {r line₁ holder₁ runner₁ q line₂ holder₂ runner₂ : ℕ}
-      → Tells text tick a b c d e f holder runner r line₁ holder₁ runner₁ a₁ b₁ c₁ d₁ e₁ f₁
-      → Tells text tick a b c d e f holder runner q line₂ holder₂ runner₂ a₂ b₂ c₂ d₂ e₂ f₂
-      → Same r q a₁ b₁ c₁ d₁ e₁ f₁ a₂ b₂ c₂ d₂ e₂ f₂ × (line₁ ≡ line₂) × (holder₁ ≡ holder₂) × (runner₁ ≡ runner₂)
+  pub tells-once : (tick holder runner : ℕ) {p q : Refusal} {holder₁ runner₁ holder₂ runner₂ : ℕ}
+      → Tells text tick a b c d e f holder runner p holder₁ runner₁ a₁ b₁ c₁ d₁ e₁ f₁
+      → Tells text tick a b c d e f holder runner q holder₂ runner₂ a₂ b₂ c₂ d₂ e₂ f₂
+      → Same p q a₁ b₁ c₁ d₁ e₁ f₁ a₂ b₂ c₂ d₂ e₂ f₂ × (holder₁ ≡ holder₂) × (runner₁ ≡ runner₂)
   tells-once tick holder runner p o =
-      let same = p .number ∙ sym (o .number) in (
-        same-all (λ (k : ℕ). k) same (p .buffers) (o .buffers),
-        p .in-line ∙ sym (o .in-line),
-        given-once _ _ same (p .holds) (o .holds),
-        given-once _ _ same (p .runs) (o .runs),
+      let same = p .who .refusal-is ∙ sym (o .who .refusal-is) in (
+        same-all (λ (r : Refusal). r .number) same (p .buffers) (o .buffers),
+        given-once _ _ same (p .who .holds) (o .who .holds),
+        given-once _ _ same (p .who .runs) (o .who .runs),
       )
 
-  pub analyses-once : (n : Counted) (l : Listed) {r line₁ q line₂ : ℕ} {n₁ n₂ : Counted} {l₁ l₂ : Listed}
-      → Analyses text a b c d e f n l r line₁ n₁ l₁ a₁ b₁ c₁ d₁ e₁ f₁ → Analyses text a b c d e f n l q line₂ n₂ l₂ a₂ b₂ c₂ d₂ e₂ f₂
-      → Same r q a₁ b₁ c₁ d₁ e₁ f₁ a₂ b₂ c₂ d₂ e₂ f₂ × (line₁ ≡ line₂) × (n₁ ≡ n₂) × (l₁ ≡ l₂)
+  pub analyses-once : (n : Counted) (l : Listed) {p q : Refusal} {n₁ n₂ : Counted} {l₁ l₂ : Listed}
+      → Analyses text a b c d e f n l p n₁ l₁ a₁ b₁ c₁ d₁ e₁ f₁ → Analyses text a b c d e f n l q n₂ l₂ a₂ b₂ c₂ d₂ e₂ f₂
+      → Same p q a₁ b₁ c₁ d₁ e₁ f₁ a₂ b₂ c₂ d₂ e₂ f₂ × (n₁ ≡ n₂) × (l₁ ≡ l₂)
   analyses-once n l p o =
-      let same = p .answers .number ∙ sym (o .answers .number) in (
-        same-all (λ (k : ℕ). k) same (p .buffers) (o .buffers),
-        p .answers .in-line ∙ sym (o .answers .in-line),
+      let same = p .answers .refusal-is ∙ sym (o .answers .refusal-is) in (
+        same-all (λ (r : Refusal). r .number) same (p .buffers) (o .buffers),
         λ i. record {
           span = given-once _ _ same (p .answers .ticks) (o .answers .ticks) i;
           servers = given-once _ _ same (p .answers .servers-count) (o .answers .servers-count) i;

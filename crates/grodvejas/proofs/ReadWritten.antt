@@ -15,29 +15,30 @@ use Rattle.writing.specs.Text.{textOf}
 use Rattle.writing.specs.Writing.{writeOutcome}
 use Rattle.writing.proofs.Written.{same-bytes}
 use Rattle.writing.proofs.Writes.{same-outcome}
-use Rattle.handing.specs.Handing.{answerNumber, Counted}
+use Rattle.giving.specs.Giving.{refusalIn, Counted}
+use Rattle.giving.proofs.Given.{same-number}
 use Rattle.grodvejas.specs.Calls.{Wrote, tableOf, Writes, Reads}
 
 -- ---- what is handed out is an equal table
 
 -- no refusal has the number 0
-accepted : (text : List ℕ) → 0 ≡ answerNumber (readingOf text .answer) → readingOf text .answer ≡ Accepted
+accepted : (text : List ℕ) → 0 ≡ refusalIn (readingOf text .answer) .number → readingOf text .answer ≡ Accepted
 accepted text e = go (readingOf text .answer) refl
   where
     go : (a : Answer) → readingOf text .answer ≡ a → a ≡ Accepted
     go Accepted q = refl
     go (Refused refusal) q = absurd (omega (arith, rw q at e, turned-away text refusal q .number))
 
-module _ (text : List ℕ) (n : Counted) (servers tasks : List ℕ) {line′ : ℕ} {n′ : Counted} {servers′ tasks′ : List ℕ}
-    (reads : Reads text n servers tasks 0 line′ n′ servers′ tasks′) where
+module _ (text : List ℕ) (n : Counted) (servers tasks : List ℕ) {line′ place′ : ℕ} {n′ : Counted} {servers′ tasks′ : List ℕ}
+    (reads : Reads text n servers tasks (record { number = 0; line = line′; place = place′ }) n′ servers′ tasks′) where
   pub read-same : Same (tableOf n′ servers′ tasks′) (readingOf text .table)
   read-same =
-      let ok = accepted-obeyed text (accepted text (reads .number)) in
+      let ok = accepted-obeyed text (accepted text (same-number (reads .refusal-is))) in
       rw (reads .ticks, reads .servers-count, reads .tasks-count, reads .servers-are, reads .tasks-are) (rows-back (readingOf text .table) ok servers tasks)
 
   pub read-written : {out out′ : List ℕ} {count r count′ : ℕ} → Writes n′ servers′ tasks′ out count r count′ out′
       → Wrote (inRoom (textOf (readingOf text .table)) out) (textOf (readingOf text .table)) out count r count′ out′
   read-written {out} w =
-      let ok = accepted-obeyed text (accepted text (reads .number)) in
+      let ok = accepted-obeyed text (accepted text (same-number (reads .refusal-is))) in
       let e : writeOutcome (tableOf n′ servers′ tasks′) out ≡ inRoom (textOf (readingOf text .table)) out = same-outcome read-same out ∙ rw (ok .rules) in
       record { number = w .number ∙ rw e; counted = w .counted ∙ rw e; buffer = w .buffer ∙ rw (e, same-bytes read-same) }

@@ -1,13 +1,14 @@
--- What each exported call promises: its number, and everything that is handed out or lent as it is left. A value with a prime stands for afterwards.
+-- What each exported call promises: its number, or its refusal (number, line and place) where it hands one out, and everything that is handed out or lent
+-- as it is left. A value with a prime stands for afterwards.
 use Prim.Native.Nat.{ℕ}
 use mathlib.Core.Path.{_≡_}
 use mathlib.Core.List.{List}
 use Rattle.windows.specs.Windows.{addUp, cutAt, fit}
 use Rattle.curves.specs.Refusals.{Lengths, addOutcome, cutOutcome, fitOutcome, provideOutcome}
-use Rattle.refusals.specs.Outcomes.{Outcome, front, lent}
-use Rattle.table.specs.Rules.{serversOf, tasksOf}
+use Rattle.refusals.specs.Outcomes.{Outcome, lent}
+use Rattle.refusals.specs.declared.Refusal.{Refusal}
 use Rattle.table.specs.declared.Table.{Table}
-use Rattle.entries.specs.Entries.{rows, serverRow, taskRow, tableFrom}
+use Rattle.entries.specs.Entries.{tableFrom}
 use Rattle.reading.specs.Reading.{readingOf}
 use Rattle.writing.specs.Text.{textOf}
 use Rattle.writing.specs.Writing.{writeOutcome}
@@ -18,7 +19,8 @@ use Rattle.scheduling.specs.Buffers.{Buffers}
 use Rattle.scheduling.specs.Asking.{whoOf}
 use Rattle.scheduling.specs.Analysing.{analysisOf}
 use Rattle.reporting.specs.Reporting.{reportFor, reportOutcome}
-use Rattle.handing.specs.Handing.{numberIn, handed, instantOr0, given, answerNumber, answerLine, stepFor, HandsStep, Counted, Listed, HandsAnalysis}
+use Rattle.giving.specs.Giving.{Counted, HandsReading, stepFor, HandsStep, unplaced}
+use Rattle.handing.specs.Handing.{numberIn, handed, instantOr0, HandsWho, Listed, HandsAnalysis}
 
 -- ---- the calls that write one result
 
@@ -61,36 +63,27 @@ pub record Provides (curve : List ℕ) (amount instant r instant′ : ℕ) : Typ
 
 -- ---- the calls on a table
 
--- of each array the rows within the count are handed out, and the rest is as it was
-pub record Reads (text : List ℕ) (n : Counted) (servers tasks : List ℕ) (r line′ : ℕ) (n′ : Counted) (servers′ tasks′ : List ℕ) : Type 0 where
-  pub number : r ≡ answerNumber (readingOf text .answer)
-  pub in-line : line′ ≡ answerLine (readingOf text .answer)
-  pub ticks : n′ .span ≡ given r (readingOf text .table .span) (n .span)
-  pub servers-count : n′ .servers ≡ given r (readingOf text .table .«servers_n») (n .servers)
-  pub tasks-count : n′ .tasks ≡ given r (readingOf text .table .«tasks_n») (n .tasks)
-  pub servers-are : servers′ ≡ given r (front (rows serverRow (serversOf (readingOf text .table))) servers) servers
-  pub tasks-are : tasks′ ≡ given r (front (rows taskRow (tasksOf (readingOf text .table))) tasks) tasks
+-- what is read of a text
+abbrev pub Reads : (text : List ℕ) (n : Counted) (servers tasks : List ℕ) (refusal : Refusal) (n′ : Counted) (servers′ tasks′ : List ℕ) → Type 0
+Reads text = HandsReading (readingOf text)
 
 -- of a text and a state: "a refused step also hands back the state it got, with 0 for server and task"
-pub record Steps (text : List ℕ) (before : State) (r line′ : ℕ) (after : State) (holder′ runner′ : ℕ) : Type 0 where
-  pub in-line : line′ ≡ stepFor text before .refusal .line
-  pub step : HandsStep (stepFor text before) r after holder′ runner′
+abbrev pub Steps : (text : List ℕ) (before : State) (refusal : Refusal) (after : State) (holder′ runner′ : ℕ) → Type 0
+Steps text before = HandsStep (stepFor (readingOf text) before)
 
--- the same of a table that is given by its rows
+-- the same of a table that is given by its rows: no text is read, so that there is no line and no place
 abbrev pub StepsTable : (n : Counted) (servers tasks : List ℕ) (before : State) (r : ℕ) (after : State) (holder′ runner′ : ℕ) → Type 0
-StepsTable n servers tasks before = HandsStep (stepOf (tableOf n servers tasks) before)
+StepsTable n servers tasks before r = HandsStep (stepOf (tableOf n servers tasks) before) (unplaced r)
 
 -- ---- the calls on a text and six work buffers
 
 -- who holds a tick: by the answer of the call on a text and a tick
-pub record Tells (text : List ℕ) (tick : ℕ) (a b c d e f : List ℕ) (holder runner r line′ holder′ runner′ : ℕ) (a′ b′ c′ d′ e′ f′ : List ℕ) : Type 0 where
-  pub number : r ≡ whoOf text tick (roomy a b c d e f) .refusal .number
-  pub in-line : line′ ≡ whoOf text tick (roomy a b c d e f) .refusal .line
-  pub holds : holder′ ≡ given r (whoOf text tick (roomy a b c d e f) .holder) holder
-  pub runs : runner′ ≡ given r (whoOf text tick (roomy a b c d e f) .runner) runner
-  pub buffers : Buffers r a b c d e f a′ b′ c′ d′ e′ f′
+pub record Tells (text : List ℕ) (tick : ℕ) (a b c d e f : List ℕ) (holder runner : ℕ) (refusal : Refusal) (holder′ runner′ : ℕ)
+    (a′ b′ c′ d′ e′ f′ : List ℕ) : Type 0 where
+  pub who : HandsWho (whoOf text tick (roomy a b c d e f)) holder runner refusal holder′ runner′
+  pub buffers : Buffers (refusal .number) a b c d e f a′ b′ c′ d′ e′ f′
 
-pub record Analyses (text : List ℕ) (a b c d e f : List ℕ) (n : Counted) (l : Listed) (r line′ : ℕ) (n′ : Counted) (l′ : Listed) (a′ b′ c′ d′ e′ f′ : List ℕ)
-    : Type 0 where
-  pub answers : HandsAnalysis (analysisOf text (roomy a b c d e f)) n l r line′ n′ l′
-  pub buffers : Buffers r a b c d e f a′ b′ c′ d′ e′ f′
+pub record Analyses (text : List ℕ) (a b c d e f : List ℕ) (n : Counted) (l : Listed) (refusal : Refusal) (n′ : Counted) (l′ : Listed)
+    (a′ b′ c′ d′ e′ f′ : List ℕ) : Type 0 where
+  pub answers : HandsAnalysis (analysisOf text (roomy a b c d e f)) n l refusal n′ l′
+  pub buffers : Buffers (refusal .number) a b c d e f a′ b′ c′ d′ e′ f′

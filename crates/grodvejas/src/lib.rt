@@ -1,16 +1,14 @@
 // The library's calls for programs in C: numbers, slices (a pointer and a length), and places to write to. Each answers 0, or the number of its
-// refusal; what it hands out is then left as it was, but for the line, and but for a refused step, which hands out 0 for holder and runner.
+// refusal; what it hands out is then left as it was, but for line and place, and but for a refused step, which hands out 0 for holder and runner.
 use entries::table_from;
+use giving::hand_reading;
+use giving::hand_step;
+use giving::step_table;
 use handing::answered::hand_analysis;
 use handing::answered::hand_who;
 use handing::outcomes::hand_count;
 use handing::outcomes::hand_counts;
 use handing::outcomes::hand_instant;
-use handing::tables::hand_no_step;
-use handing::tables::hand_refusal;
-use handing::tables::hand_table;
-use handing::tables::step_table;
-use reading::Answer;
 ghost use Rattle.grodvejas.specs.Calls.{Adds, Cuts, Fits, Provides, Reads, Writes, Steps, StepsTable, Tells, Analyses, Reports};
 
 // Adds up two curves into a buffer, and hands out how many numbers were written.
@@ -66,6 +64,7 @@ pub extern "C" fn grod_time_to_provide(curve: &[u32], amount: u32, instant: &mut
 pub extern "C" fn grod_read(
     text: &[u8],
     line: &mut u32,
+    place: &mut u32,
     span: &mut u32,
     servers_n: &mut usize,
     tasks_n: &mut usize,
@@ -73,16 +72,11 @@ pub extern "C" fn grod_read(
     tasks: &mut [u32; 384],
 ) -> u32
     ensures { λ r. ⌜ Reads (now (text .entry)) (record { span = now (span .entry); servers = now («servers_n» .entry); tasks = now («tasks_n» .entry) })
-        (now (servers .entry)) (now (tasks .entry)) r (now (line .exit))
+        (now (servers .entry)) (now (tasks .entry)) (record { number = r; line = now (line .exit); place = now (place .exit) })
         (record { span = now (span .exit); servers = now («servers_n» .exit); tasks = now («tasks_n» .exit) }) (now (servers .exit)) (now (tasks .exit)) ⌝ }
 {
     let read = reading::read(text);
-    let answer = read.answer;
-    let table = read.table;
-    match answer {
-        Answer::Accepted => hand_table(table, line, span, servers_n, tasks_n, servers, tasks),
-        Answer::Refused(refusal) => hand_refusal(refusal, line),
-    }
+    hand_reading(read, line, place, span, servers_n, tasks_n, servers, tasks)
 }
 
 // Writes the text of a table, given by its span, its counts and its rows, to the front of a buffer, and hands out how many bytes it has.
@@ -113,25 +107,19 @@ pub extern "C" fn grod_step(
     budgets: &mut [u32; 16],
     waiting: &mut [u32; 64],
     line: &mut u32,
+    place: &mut u32,
     holder: &mut u32,
     runner: &mut u32,
 ) -> u32
     ensures { λ r. ⌜ Steps (now (text .entry)) (record { tick = now (tick .entry); budgets = now (budgets .entry); waiting = now (waiting .entry) })
-        r (now (line .exit)) (record { tick = now (tick .exit); budgets = now (budgets .exit); waiting = now (waiting .exit) }) (now (holder .exit)) (now (runner .exit)) ⌝ }
+        (record { number = r; line = now (line .exit); place = now (place .exit) })
+        (record { tick = now (tick .exit); budgets = now (budgets .exit); waiting = now (waiting .exit) }) (now (holder .exit)) (now (runner .exit)) ⌝ }
 {
     let read = reading::read(text);
-    let answer = read.answer;
-    let table = read.table;
-    match answer {
-        Answer::Accepted => {
-            *line = 0;
-            step_table(table, tick, budgets, waiting, holder, runner)
-        }
-        Answer::Refused(refusal) => hand_no_step(refusal, line, holder, runner),
-    }
+    hand_step(read, tick, budgets, waiting, line, place, holder, runner)
 }
 
-// The same with the machine of a table that is given by its span, its counts and its rows. No text is read, so that there is no line.
+// The same with the machine of a table that is given by its span, its counts and its rows. No text is read, so that there is no line and no place.
 #[no_mangle]
 pub extern "C" fn grod_step_table(
     span: u32,
@@ -165,15 +153,17 @@ pub extern "C" fn grod_who_at(
     running: &mut [u32],
     spare: &mut [u32],
     line: &mut u32,
+    place: &mut u32,
     holder: &mut u32,
     runner: &mut u32,
 ) -> u32
     ensures { λ r. ⌜ Tells (now (text .entry)) tick (now (free .entry)) (now (sum .entry)) (now (part .entry)) (now (held .entry)) (now (running .entry))
-        (now (spare .entry)) (now (holder .entry)) (now (runner .entry)) r (now (line .exit)) (now (holder .exit)) (now (runner .exit)) (now (free .exit))
-        (now (sum .exit)) (now (part .exit)) (now (held .exit)) (now (running .exit)) (now (spare .exit)) ⌝ }
+        (now (spare .entry)) (now (holder .entry)) (now (runner .entry)) (record { number = r; line = now (line .exit); place = now (place .exit) })
+        (now (holder .exit)) (now (runner .exit)) (now (free .exit)) (now (sum .exit)) (now (part .exit)) (now (held .exit)) (now (running .exit))
+        (now (spare .exit)) ⌝ }
 {
     let who = scheduling::who_at(text, tick, free, sum, part, held, running, spare);
-    hand_who(who, line, holder, runner)
+    hand_who(who, line, place, holder, runner)
 }
 
 // Hands out the answers of all servers and tasks of a text's table, a row of numbers for each: of the arrays the rows within the counts, and no others.
@@ -187,6 +177,7 @@ pub extern "C" fn grod_analyse(
     running: &mut [u32],
     spare: &mut [u32],
     line: &mut u32,
+    place: &mut u32,
     span: &mut u32,
     servers_n: &mut usize,
     tasks_n: &mut usize,
@@ -196,7 +187,8 @@ pub extern "C" fn grod_analyse(
 ) -> u32
     ensures { λ r. ⌜ Analyses (now (text .entry)) (now (free .entry)) (now (sum .entry)) (now (part .entry)) (now (held .entry)) (now (running .entry))
         (now (spare .entry)) (record { span = now (span .entry); servers = now («servers_n» .entry); tasks = now («tasks_n» .entry) })
-        (record { servers = now (servers .entry); tasks = now (tasks .entry); margin = now (margin .entry) }) r (now (line .exit))
+        (record { servers = now (servers .entry); tasks = now (tasks .entry); margin = now (margin .entry) })
+        (record { number = r; line = now (line .exit); place = now (place .exit) })
         (record { span = now (span .exit); servers = now («servers_n» .exit); tasks = now («tasks_n» .exit) })
         (record { servers = now (servers .exit); tasks = now (tasks .exit); margin = now (margin .exit) }) (now (free .exit))
         (now (sum .exit)) (now (part .exit)) (now (held .exit)) (now (running .exit)) (now (spare .exit)) ⌝ }
@@ -205,6 +197,7 @@ pub extern "C" fn grod_analyse(
     hand_analysis(
         analysis,
         line,
+        place,
         span,
         servers_n,
         tasks_n,

@@ -17,7 +17,6 @@ use Rattle.lines.specs.declared.Line.{Line}
 use Rattle.lines.specs.declared.Line.the-variants.{SpanIs, ServerIs, TaskIs, Wrong}
 use Rattle.refusals.specs.Refusals.{numberOf, refusedAt}
 use Rattle.refusals.specs.declared.Ground.{Ground}
-use Rattle.refusals.specs.declared.Ground.the-variants as ground
 use Rattle.refusals.specs.declared.Refusal.{Refusal}
 use Rattle.reading.specs.Reading.{noTable, refusal, accepted, endedOf, readLines, endsWithFeed, readingOf}
 use Rattle.reading.specs.Pieces.{withLine, goesOn}
@@ -26,18 +25,22 @@ use Rattle.reading.specs.declared.Answer.the-variants.{Accepted, Refused}
 use Rattle.reading.specs.declared.Reading.{Reading}
 use Rattle.reading.proofs.Rows.{after-right}
 use Rattle.reading.proofs.Accepted.{too-long, not-ended, by-lines}
-use Rattle.grounds.specs.Texts.{said, RightBehind, FirstGround, here, later, AllRight, end, next, both, Whole, TextGround, long, unended, inLine, missing, over}
+use Rattle.grounds.specs.Texts.{said, GroundBehind, RightBehind, Reached, here, later, FirstGround, AllRight, end, next, both, Whole, TextGround, long, unended, inLine, missing, over}
 use Rattle.grounds.proofs.Grounds.{refused-ground, ground-refuses, said-none, none-said, ground-once}
 
 -- ---- from the ground to the refusal
 
--- the first line with a ground ends the reading on it
-first-reads : (ls : List (List ℕ)) (t : Table) (n : ℕ) {x : Ground} {k place : ℕ} → FirstGround ls t n x k place → readLines ls t n ≡ refusal x k place
+-- a ground of the first line that has one ends the reading on it
+reached-reads : (ls : List (List ℕ)) (t : Table) (n : ℕ) {u : Table} {m : List ℕ} {x : Ground} {k place : ℕ} → Reached ls t n k u m → GroundBehind u k m x place
+    → readLines ls t n ≡ refusal x k place
 unfolding readLines
-first-reads (l ∷ ls) t n (here {place = place} {x = x} g) = rw (ground-refuses n (t .«servers_n») (t .«tasks_n») l x place g)
-first-reads (l ∷ ls) t n (later h f) =
+reached-reads (l ∷ ls) t n {x = x} {place = place} here g = rw (ground-refuses n (t .«servers_n») (t .«tasks_n») l x place g)
+reached-reads (l ∷ ls) t n (later h f) g =
     after-right (said t n l) t n (λ u. readLines ls u (n + 1)) (none-said n (t .«servers_n») (t .«tasks_n») l h)
-    ∙ first-reads ls (withLine t (said t n l)) (n + 1) f
+    ∙ reached-reads ls (withLine t (said t n l)) (n + 1) f g
+
+first-reads : (ls : List (List ℕ)) (t : Table) (n : ℕ) {x : Ground} {k place : ℕ} → FirstGround ls t n x k place → readLines ls t n ≡ refusal x k place
+first-reads ls t n f = reached-reads ls t n (f .reached) (f .ground)
 
 -- lines without one leave it to what is missing and to the span
 right-reads : (ls : List (List ℕ)) (t : Table) (n : ℕ) {u : Table} {m : ℕ} → AllRight ls t n u m → readLines ls t n ≡ endedOf u m
@@ -66,7 +69,7 @@ data Come (ls : List (List ℕ)) (t : Table) (n : ℕ) : Type 0 where
   right : {u : Table} {m : ℕ} → AllRight ls t n u m → Come ls t n
 
 come-later : {l : List ℕ} {ls : List (List ℕ)} {t : Table} {n : ℕ} → RightBehind t n l → Come ls (withLine t (said t n l)) (n + 1) → Come (l ∷ ls) t n
-come-later h (first f) = first (later h f)
+come-later h (first f) = first (record { above = f .above; line = f .line; reached = later h (f .reached); ground = f .ground })
 come-later h (right r) = right (next h r)
 
 come : (ls : List (List ℕ)) (t : Table) (n : ℕ) → Come ls t n
@@ -80,7 +83,8 @@ come (l ∷ ls) t n = go (said t n l) refl (come ls (withLine t (said t n l)) (n
     go (SpanIs h) e c = go-on (ap goesOn e) c
     go (ServerIs s) e c = go-on (ap goesOn e) c
     go (TaskIs k) e c = go-on (ap goesOn e) c
-    go (Wrong x place) e c = first (here (refused-ground n (t .«servers_n») (t .«tasks_n») l x place e))
+    go (Wrong x place) e c =
+        first (record { above = t; line = l; reached = here; ground = refused-ground n (t .«servers_n») (t .«tasks_n») l x place e })
 
 -- a text has a ground, or is accepted
 pub data TextJudged (text : List ℕ) : Type 0 where
@@ -139,15 +143,23 @@ none-accepted text h = go (text-judged text)
 -- ---- a text has one ground
 
 -- of lines behind a table one is the first with a ground, and it has that ground only
+reached-once : (ls : List (List ℕ)) (t : Table) (n : ℕ) {u v : Table} {a b : List ℕ} {x y : Ground} {k l p q : ℕ} → Reached ls t n k u a → GroundBehind u k a x p
+    → Reached ls t n l v b → GroundBehind v l b y q → x ≡ y
+reached-once (l ∷ ls) t n here g here h = ground-once n (t .«servers_n») (t .«tasks_n») l _ _ _ _ g h .0
+reached-once (l ∷ ls) t n {x = x} {p = p} here g (later r f) h = absurd (r x p g)
+reached-once (l ∷ ls) t n {y = y} {q = q} (later r f) g here h = absurd (r y q h)
+reached-once (l ∷ ls) t n (later r e) g (later s f) h = reached-once ls (withLine t (said t n l)) (n + 1) e g f h
+
 first-once : (ls : List (List ℕ)) (t : Table) (n : ℕ) {x y : Ground} {k l p q : ℕ} → FirstGround ls t n x k p → FirstGround ls t n y l q → x ≡ y
-first-once (l ∷ ls) t n (here g) (here h) = ground-once n (t .«servers_n») (t .«tasks_n») l _ _ _ _ g h .0
-first-once (l ∷ ls) t n (here {place = p} {x = x} g) (later r f) = absurd (r x p g)
-first-once (l ∷ ls) t n (later r f) (here {place = q} {x = y} h) = absurd (r y q h)
-first-once (l ∷ ls) t n (later r f) (later s g) = first-once ls (withLine t (said t n l)) (n + 1) f g
+first-once ls t n f g = reached-once ls t n (f .reached) (f .ground) (g .reached) (g .ground)
+
+reached-not-right : (ls : List (List ℕ)) (t : Table) (n : ℕ) {u v : Table} {a : List ℕ} {x : Ground} {k p m : ℕ} → Reached ls t n k u a → GroundBehind u k a x p
+    → AllRight ls t n v m → ⊥
+reached-not-right (l ∷ ls) t n {x = x} {p = p} here g (next r a) = r x p g
+reached-not-right (l ∷ ls) t n (later s f) g (next r a) = reached-not-right ls (withLine t (said t n l)) (n + 1) f g a
 
 first-not-right : (ls : List (List ℕ)) (t : Table) (n : ℕ) {x : Ground} {k p : ℕ} {u : Table} {m : ℕ} → FirstGround ls t n x k p → AllRight ls t n u m → ⊥
-first-not-right (l ∷ ls) t n (here {place = p} {x = x} g) (next r a) = r x p g
-first-not-right (l ∷ ls) t n (later s f) (next r a) = first-not-right ls (withLine t (said t n l)) (n + 1) f a
+first-not-right ls t n f a = reached-not-right ls t n (f .reached) (f .ground) a
 
 right-once : (ls : List (List ℕ)) (t : Table) (n : ℕ) {u v : Table} {m k : ℕ} → AllRight ls t n u m → AllRight ls t n v k → u ≡ v
 right-once [] t n end end = refl

@@ -169,7 +169,7 @@ module _ (w : Word) (n servers tasks : ℕ) (line : List ℕ) where
   abbrev pub AllRanges : Type 0
   AllRanges = RangesBefore (suc (countOf w))
 
-  -- "line by line 3, 7, 4, 5, 6, within 5 and within 6 from the left"
+  -- "line by line 3, 7, 4, 5, 6, within 5 and within 6 from the left"; what was 5 is 5 and 14 to 18 (document 02, E2)
   pub data GroundOf : Ground → ℕ → Type 0 where
     -- 3: "first field unknown or in the wrong place"
     misplaced : inPlace w n servers tasks ≡ false → GroundOf Misplaced 0
@@ -177,12 +177,12 @@ module _ (w : Word) (n servers tasks : ℕ) (line : List ℕ) where
     tooMany : inPlace w n servers tasks ≡ true → hasRoom w servers tasks ≡ false → GroundOf TooMany 0
     -- 4: "wrong count of fields"
     fieldCount : inPlace w n servers tasks ≡ true → hasRoom w servers tasks ≡ true → (length (fieldsOf line) ≡ countOf w → ⊥) → GroundOf FieldCount 0
-    -- 5: "a field is no number, or `-` not allowed, or server kind unknown", the first such field
+    -- 5 and 14 to 18: a field is no number, or `-` not allowed, or the server kind unknown, the first such field; which it is, Words.antt says
     badField : {x : Ground} {place : ℕ} → Counted → InLine place → GoodBefore place → fieldThere place ≡ isBad x → GroundOf x place
-    -- 6: "number outside its range", the first such number, "once all fields of the line have passed 5"
+    -- 6: "number outside its range", the first such number, "once all fields of the line have passed": "all before any 6"
     outOfRange : {place : ℕ} → Counted → AllGood → InLine place → RangesBefore place → rangeThere place ≡ false → GroundOf OutOfRange place
 
-  -- 3, 7, 4, 5 and 6 are passed: no ground
+  -- all tests are passed: no ground
   pub record Right : Type 0 where
     pub counted : Counted
     pub fields : AllGood

@@ -30,11 +30,18 @@ GroundBehind t n l x place = LineGround n (t .«servers_n») (t .«tasks_n») l 
 abbrev pub RightBehind : Table → ℕ → List ℕ → Type 0
 RightBehind t n l = NoGround n (t .«servers_n») (t .«tasks_n») l
 
--- of lines behind a table, the first of them line n, line k is the first that has a ground
-pub data FirstGround : List (List ℕ) → Table → ℕ → Ground → ℕ → ℕ → Type 0 where
-  here : {l : List ℕ} {ls : List (List ℕ)} {t : Table} {n place : ℕ} {x : Ground} → GroundBehind t n l x place → FirstGround (l ∷ ls) t n x n place
-  later : {l : List ℕ} {ls : List (List ℕ)} {t : Table} {n k place : ℕ} {x : Ground}
-      → RightBehind t n l → FirstGround ls (withLine t (said t n l)) (n + 1) x k place → FirstGround (l ∷ ls) t n x k place
+-- of lines behind a table, the first of them line n: no line above line k has a ground, they make the table u, and l is line k
+pub data Reached : List (List ℕ) → Table → ℕ → ℕ → Table → List ℕ → Type 0 where
+  here : {l : List ℕ} {ls : List (List ℕ)} {t : Table} {n : ℕ} → Reached (l ∷ ls) t n n t l
+  later : {l m : List ℕ} {ls : List (List ℕ)} {t u : Table} {n k : ℕ}
+      → RightBehind t n l → Reached ls (withLine t (said t n l)) (n + 1) k u m → Reached (l ∷ ls) t n k u m
+
+-- line k is the first that has a ground
+pub record FirstGround (ls : List (List ℕ)) (t : Table) (n : ℕ) (x : Ground) (k place : ℕ) : Type 0 where
+  pub above : Table
+  pub line : List ℕ
+  pub reached : Reached ls t n k above line
+  pub ground : GroundBehind above k line x place
 
 -- none of them has a ground; what they say makes the table u, and m is the number of the line after the last
 pub data AllRight : List (List ℕ) → Table → ℕ → Table → ℕ → Type 0 where
@@ -56,7 +63,7 @@ pub data TextGround (text : List ℕ) : Ground → ℕ → ℕ → Type 0 where
   long : 4096 < length text → TextGround text TextTooLong 0 0
   -- 2: "text empty or last byte not a line feed"
   unended : length text ≤ 4096 → endsWithFeed text ≡ false → TextGround text NotEnded 0 0
-  -- 3 to 7: the first line that has a ground
+  -- 3 to 7 and 14 to 18: the first line that has a ground
   inLine : {x : Ground} {k place : ℕ} → Whole text → FirstGround (linesOf text) noTable 1 x k place → TextGround text x k place
   -- 3: "no server; no task", on the line after the last
   missing : {u : Table} {m : ℕ} → Whole text → AllRight (linesOf text) noTable 1 u m → both u ≡ false → TextGround text Missing m 0

@@ -1,4 +1,5 @@
--- Document 01, 'The table text', 5 of 'Numbers given on refusal': in words, what makes a field bad. `BadAs` says what `isBad` of Grounds.antt says.
+-- Document 01, 'The table text', and document 02, E2: in words, what makes a field bad, "in one field tested as 5, 14, 15, 16, 17, and for the kind 5,
+-- 18". `BadAs` says what `isBad` of Grounds.antt says.
 use Prim.Native.Nat.{ℕ, _<_}
 use mathlib.Core.Path.{_≡_}
 use mathlib.Core.List.{List, []}
@@ -12,13 +13,17 @@ use Rattle.grounds.specs.Grounds.{May, aNumber, aNumberOrDash, aKind}
 
 -- "A number is one to five digits, no leading zero save `0` itself"
 pub data BadNumber (f : List ℕ) : Ground → Type 0 where
+  -- 5, 14: "an empty field only"; "`-` where it isn't allowed"
   noByte : f ≡ [] → BadNumber f Empty
   dashAlone : f ≡ dash → BadNumber f Dash
+  -- 15: "a byte that is no digit"
   otherByte : (f ≡ dash → ⊥) → all isDigit f ≡ false → BadNumber f NoDigit
+  -- 16: "a leading zero"
   zeroFirst : all isDigit f ≡ true → startsWithZero f ≡ true → BadNumber f LeadingZero
+  -- 17: "more than five digits"
   sixDigits : all isDigit f ≡ true → startsWithZero f ≡ false → 5 < length f → BadNumber f TooManyDigits
 
--- "`deferrable` or `periodic`"
+-- "`deferrable` or `periodic`": 5, 18
 pub data BadKind (f : List ℕ) : Ground → Type 0 where
   noKind : f ≡ [] → BadKind f Empty
   otherKind : (f ≡ [] → ⊥) → (f ≡ deferrableWord → ⊥) → (f ≡ periodicWord → ⊥) → BadKind f UnknownKind

@@ -1,23 +1,13 @@
--- What a caller in C gets of each call: 0, or the number of the refusal. "A refusal hands back number and line only and changes nothing lent": what
--- is handed out through a pointer is then as it was before, but for the line. "A refused step also hands back the state it got, with 0 for server and
--- task".
+-- What a caller in C gets of the curve calls, of the report and of an analysis: 0, or the number of the refusal, and numbers through pointers.
 use Prim.Native.Nat.{ℕ}
 use mathlib.Core.Path.{_≡_}
 use mathlib.Core.List.{List, [], _∷_, _++_}
-use lib.Dec.{eqb}
 use lib.IntN.{ℤ, pos}
 use lib.ListN.{take, drop}
-use Rattle.basics.specs.Choice.{pick}
 use Rattle.windows.specs.Windows.{Instant, at, notProvided}
 use Rattle.refusals.specs.Outcomes.{Outcome, refused, answer, front}
+use Rattle.refusals.specs.declared.Refusal.{Refusal}
 use Rattle.entries.specs.Entries.{rows}
-use Rattle.table.specs.declared.Table.{Table}
-use Rattle.reading.specs.Reading.{readingOf}
-use Rattle.reading.specs.declared.Answer.{Answer}
-use Rattle.reading.specs.declared.Answer.the-variants.{Accepted, Refused}
-use Rattle.machine.specs.Machine.{stepOf}
-use Rattle.machine.specs.declared.State.{State}
-use Rattle.machine.specs.declared.Stepped.{Stepped}
 use Rattle.answers.specs.declared.Analysis.{Analysis}
 use Rattle.answers.specs.declared.Response.{Response}
 use Rattle.answers.specs.declared.Response.the-variants.{Worst, Unfinished, None}
@@ -25,6 +15,8 @@ use Rattle.answers.specs.declared.Short.{Short}
 use Rattle.answers.specs.declared.Short.the-variants.{First, Never}
 use Rattle.answers.specs.declared.ServerAnswer.{ServerAnswer}
 use Rattle.answers.specs.declared.TaskAnswer.{TaskAnswer}
+use Rattle.scheduling.specs.declared.Who.{Who}
+use Rattle.giving.specs.Giving.{given, Counted}
 
 -- ---- curve calls and the report
 
@@ -42,34 +34,13 @@ abbrev pub instantOr0 : Instant → ℕ
 instantOr0 (at t) = t
 instantOr0 notProvided = 0
 
--- ---- calls on a text
+-- ---- who holds a tick
 
--- what an accepted call hands out, or what was there before
-abbrev pub given : {A : Type 0} → ℕ → A → A → A
-given number new old = pick (eqb number 0) new old
-
-abbrev pub answerNumber : Answer → ℕ
-answerNumber Accepted = 0
-answerNumber (Refused refusal) = refusal .number
-
-abbrev pub answerLine : Answer → ℕ
-answerLine Accepted = 0
-answerLine (Refused refusal) = refusal .line
-
--- a step of a text's machine: the text's refusal, or what the step answers
-abbrev pub stepBy : Answer → Table → State → Stepped
-stepBy Accepted table state = stepOf table state
-stepBy (Refused refusal) table state = record { refusal = refusal; next = state; holder = 0; runner = 0 }
-
-abbrev pub stepFor : List ℕ → State → Stepped
-stepFor text state = stepBy (readingOf text .answer) (readingOf text .table) state
-
--- by what a step answers: the number, the state as it is handed back, holder and runner
-pub record HandsStep (stepped : Stepped) (r : ℕ) (after : State) (holder′ runner′ : ℕ) : Type 0 where
-  pub number : r ≡ stepped .refusal .number
-  pub next : after ≡ stepped .next
-  pub holds : holder′ ≡ stepped .holder
-  pub runs : runner′ ≡ stepped .runner
+-- by what is told of the tick
+pub record HandsWho (who : Who) (holder runner : ℕ) (refusal : Refusal) (holder′ runner′ : ℕ) : Type 0 where
+  pub refusal-is : refusal ≡ who .refusal
+  pub holds : holder′ ≡ given (refusal .number) (who .holder) holder
+  pub runs : runner′ ≡ given (refusal .number) (who .runner) runner
 
 -- ---- answers as numbers
 
@@ -130,12 +101,6 @@ taskAnswers n l old = front (rows taskAnswerRow (take n l)) old
 abbrev pub margins : ℕ → List TaskAnswer → List ℤ → List ℤ
 margins = inFront (λ (a : TaskAnswer). marginNumber (a .response))
 
--- a table's span and counts
-pub record Counted : Type 0 where
-  pub span : ℕ
-  pub servers : ℕ
-  pub tasks : ℕ
-
 -- what is handed out of the answers
 pub record Listed : Type 0 where
   pub servers : List ℕ
@@ -143,12 +108,11 @@ pub record Listed : Type 0 where
   pub margin : List ℤ
 
 -- by an analysis: of each array the rows within the count are handed out, and the rest is as it was
-pub record HandsAnalysis (a : Analysis) (n : Counted) (l : Listed) (r line′ : ℕ) (n′ : Counted) (l′ : Listed) : Type 0 where
-  pub number : r ≡ a .refusal .number
-  pub in-line : line′ ≡ a .refusal .line
-  pub ticks : n′ .span ≡ given r (a .span) (n .span)
-  pub servers-count : n′ .servers ≡ given r (a .«servers_n») (n .servers)
-  pub tasks-count : n′ .tasks ≡ given r (a .«tasks_n») (n .tasks)
-  pub servers-are : l′ .servers ≡ given r (serverAnswers (a .«servers_n») (a .servers) (l .servers)) (l .servers)
-  pub tasks-are : l′ .tasks ≡ given r (taskAnswers (a .«tasks_n») (a .tasks) (l .tasks)) (l .tasks)
-  pub margins-are : l′ .margin ≡ given r (margins (a .«tasks_n») (a .tasks) (l .margin)) (l .margin)
+pub record HandsAnalysis (a : Analysis) (n : Counted) (l : Listed) (refusal : Refusal) (n′ : Counted) (l′ : Listed) : Type 0 where
+  pub refusal-is : refusal ≡ a .refusal
+  pub ticks : n′ .span ≡ given (refusal .number) (a .span) (n .span)
+  pub servers-count : n′ .servers ≡ given (refusal .number) (a .«servers_n») (n .servers)
+  pub tasks-count : n′ .tasks ≡ given (refusal .number) (a .«tasks_n») (n .tasks)
+  pub servers-are : l′ .servers ≡ given (refusal .number) (serverAnswers (a .«servers_n») (a .servers) (l .servers)) (l .servers)
+  pub tasks-are : l′ .tasks ≡ given (refusal .number) (taskAnswers (a .«tasks_n») (a .tasks) (l .tasks)) (l .tasks)
+  pub margins-are : l′ .margin ≡ given (refusal .number) (margins (a .«tasks_n») (a .tasks) (l .margin)) (l .margin)

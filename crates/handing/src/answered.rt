@@ -3,30 +3,37 @@ use crate::listing::list_margins;
 use crate::listing::list_servers;
 use crate::listing::list_tasks;
 use answers::Analysis;
+use giving::hand_refusal;
 use scheduling::Who;
-ghost use mathlib.Core.Path.{_≡_};
 ghost use Prim.Native.Nat.{_≤_};
-ghost use Rattle.handing.specs.Handing.{given, HandsAnalysis};
+ghost use Rattle.handing.specs.Handing.{HandsWho, HandsAnalysis};
 
 // Hands out who holds a tick and who runs in it.
-pub fn hand_who(who: Who, line: &mut u32, holder: &mut u32, runner: &mut u32) -> u32
-    ensures { λ r. ⌜ (r ≡ who .refusal .number) × (now (line .exit) ≡ who .refusal .line)
-        × (now (holder .exit) ≡ given r (who .holder) (now (holder .entry))) × (now (runner .exit) ≡ given r (who .runner) (now (runner .entry))) ⌝ }
+pub fn hand_who(
+    who: Who,
+    line: &mut u32,
+    place: &mut u32,
+    holder: &mut u32,
+    runner: &mut u32,
+) -> u32
+    ensures { λ r. ⌜ HandsWho who (now (holder .entry)) (now (runner .entry)) (record { number = r; line = now (line .exit); place = now (place .exit) })
+        (now (holder .exit)) (now (runner .exit)) ⌝ }
 {
     let refusal = who.refusal;
-    *line = refusal.line;
-    if refusal.number != 0 {
-        return refusal.number;
+    let number = hand_refusal(refusal, line, place);
+    if number != 0 {
+        return number;
     }
     *holder = who.holder;
     *runner = who.runner;
-    0
+    number
 }
 
 // Hands out the answers of an analysis: of each array only the entries of the servers or tasks that there are.
 pub fn hand_analysis(
     analysis: Analysis,
     line: &mut u32,
+    place: &mut u32,
     span: &mut u32,
     servers_n: &mut usize,
     tasks_n: &mut usize,
@@ -36,14 +43,15 @@ pub fn hand_analysis(
 ) -> u32
     requires { ⌜ (analysis .«servers_n» ≤ 16) × (analysis .«tasks_n» ≤ 64) ⌝ }
     ensures { λ r. ⌜ HandsAnalysis analysis (record { span = now (span .entry); servers = now («servers_n» .entry); tasks = now («tasks_n» .entry) })
-        (record { servers = now (servers .entry); tasks = now (tasks .entry); margin = now (margin .entry) }) r (now (line .exit))
+        (record { servers = now (servers .entry); tasks = now (tasks .entry); margin = now (margin .entry) })
+        (record { number = r; line = now (line .exit); place = now (place .exit) })
         (record { span = now (span .exit); servers = now («servers_n» .exit); tasks = now («tasks_n» .exit) })
         (record { servers = now (servers .exit); tasks = now (tasks .exit); margin = now (margin .exit) }) ⌝ }
 {
     let refusal = analysis.refusal;
-    *line = refusal.line;
-    if refusal.number != 0 {
-        return refusal.number;
+    let number = hand_refusal(refusal, line, place);
+    if number != 0 {
+        return number;
     }
     *span = analysis.span;
     *servers_n = analysis.servers_n;
@@ -53,5 +61,5 @@ pub fn hand_analysis(
     list_servers(of_servers, analysis.servers_n, servers);
     list_tasks(of_tasks, analysis.tasks_n, tasks);
     list_margins(of_tasks, analysis.tasks_n, margin);
-    0
+    number
 }

@@ -1,5 +1,4 @@
-// What the calls for C hand out: counts, instants, tables and answers as plain numbers, through places to write to.
+// What the calls for C hand out of curve calls, reports and analyses, through places to write to: counts, instants, and answers as plain numbers.
 pub mod answered;
 pub mod listing;
 pub mod outcomes;
-pub mod tables;

@@ -6,6 +6,7 @@ use native.Mathlib.Omega.{arith}
 use lib.ListN.{length, getD, length-append}
 use lib.Dec.{eqb}
 use Rattle.basics.specs.Choice.{pick}
+use Rattle.refusals.specs.Refusals.{lastNumber, lastPlace}
 use Rattle.refusals.specs.declared.Refusal.{Refusal}
 use Rattle.answers.specs.Answers.{noServerAnswer, noTaskAnswer}
 use Rattle.answers.specs.declared.Analysis.{Analysis}
@@ -21,10 +22,12 @@ use Rattle.printing.specs.Report.{refusedLine, spanLine, shortField, ser
 
 -- ---- lines
 
--- refused 13 4097
-refused-line-most : (r : Refusal) → r .number ≤ 13 → r .line ≤ 4097 → length (refusedLine r) ≤ 16
+-- refused 18 4097 6
+refused-line-most : (r : Refusal) → r .number ≤ lastNumber → r .line ≤ 4097 → r .place ≤ lastPlace → length (refusedLine r) ≤ 19
 unfolding refusedLine
-refused-line-most r n l = simp length-append (omega (arith, field-two (r .number) (omega arith), field-four (r .line) (omega arith)))
+refused-line-most r n l p =
+    simp length-append
+    (omega (arith, field-two (r .number) (omega arith), field-four (r .line) (omega arith), field-two (r .place) (omega arith)))
 
 -- span 16000
 span-line-most : (H : ℕ) → H ≤ 16000 → length (spanLine H) ≤ 11
@@ -95,4 +98,4 @@ module _ (a : Analysis) (w : Within a) (s : a .«servers_n» ≤ 16) (t : a .«t
       go : (b : Bool) → length (pick b (spanLine (a .span) ++ lines) (refusedLine (a .refusal))) ≤ 2475
       go true =
           simp length-append (omega (arith, span-line-most (a .span) (w .span), server-lines-most, task-lines-most))
-      go false = omega (arith, refused-line-most (a .refusal) (w .number) (w .line))
+      go false = omega (arith, refused-line-most (a .refusal) (w .number) (w .line) (w .place))

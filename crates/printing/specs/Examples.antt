@@ -5,10 +5,10 @@ use Rattle.answers.specs.declared.Analysis.{Analysis}
 use Rattle.answers.specs.declared.Response.the-variants.{Unfinished, None}
 use Rattle.printing.specs.Report.{taskLine, reportOf}
 
--- refused for the fourth word of line 3
+-- refused for a leading zero in the fourth word of line 3
 abbrev pub wrongField : Analysis
 wrongField = record {
-  refusal = record { number = 5; line = 3; place = 4 };
+  refusal = record { number = 16; line = 3; place = 4 };
   span = 0;
   «servers_n» = 0;
   «tasks_n» = 0;
@@ -17,8 +17,8 @@ wrongField = record {
 }
 
 pub record Checked : Type 0 where
-  -- refused 5 3
-  pub refused : reportOf wrongField ≡ 114 ∷ 101 ∷ 102 ∷ 117 ∷ 115 ∷ 101 ∷ 100 ∷ 9 ∷ 53 ∷ 9 ∷ 51 ∷ 10 ∷ []
+  -- refused 16 3 4
+  pub refused : reportOf wrongField ≡ 114 ∷ 101 ∷ 102 ∷ 117 ∷ 115 ∷ 101 ∷ 100 ∷ 9 ∷ 49 ∷ 54 ∷ 9 ∷ 51 ∷ 9 ∷ 52 ∷ 10 ∷ []
   -- task 2 unfinished 16
   pub unfinished : taskLine 2 (record { response = Unfinished 16 })
       ≡ 116 ∷ 97 ∷ 115 ∷ 107 ∷ 9 ∷ 50 ∷ 9 ∷ 117 ∷ 110 ∷ 102 ∷ 105 ∷ 110 ∷ 105 ∷ 115 ∷ 104 ∷ 101 ∷ 100 ∷ 9 ∷ 49 ∷ 54 ∷ 10 ∷ []

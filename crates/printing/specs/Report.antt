@@ -35,9 +35,9 @@ noneWord = 110 ∷ 111 ∷ 110 ∷ 101 ∷ []
 
 -- ---- lines
 
--- "Refused: `refused`, number, line"
+-- "Refused: `refused`, number, line"; document 02, E2: "The `refused` line ends with the place"
 unfoldable pub refusedLine : Refusal → List ℕ
-refusedLine refusal = refusedWord ++ (field (refusal .number) ++ (field (refusal .line) ++ feed))
+refusedLine refusal = refusedWord ++ (field (refusal .number) ++ (field (refusal .line) ++ (field (refusal .place) ++ feed)))
 
 -- "Otherwise `span` and H"
 unfoldable pub spanLine : ℕ → List ℕ

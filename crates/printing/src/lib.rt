@@ -18,12 +18,13 @@ ghost use Rattle.printing.specs.Report.{refusedLine, spanLine, shortFiel
 
 // Puts the line of a refusal.
 pub fn put_refused(out: &mut [u8], n: usize, refusal: Refusal) -> usize
-    requires { ⌜ n + 30 ≤ 1000000 ⌝ }
-    ensures { λ r. ⌜ Put (now (out .entry)) (now (out .exit)) n (refusedLine refusal) r × (r ≤ n + 30) ⌝ }
+    requires { ⌜ n + 41 ≤ 1000000 ⌝ }
+    ensures { λ r. ⌜ Put (now (out .entry)) (now (out .exit)) n (refusedLine refusal) r × (r ≤ n + 41) ⌝ }
 {
     let n1 = put_labelled(out, n, b"refused", refusal.number);
     let n2 = put_field(out, n1, refusal.line);
-    put_byte(out, n2, b'\n')
+    let n3 = put_field(out, n2, refusal.place);
+    put_byte(out, n3, b'\n')
 }
 
 // Puts the line of the span.

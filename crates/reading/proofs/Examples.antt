@@ -1,4 +1,4 @@
--- The four texts are read, by computing, a line at a time. Assumes nothing.
+-- The five texts are read, by computing, a line at a time. Assumes nothing.
 use Prim.Native.Nat.{ℕ, _+_}
 use mathlib.Core.Path.{_≡_, refl, ap, _∙_}
 use mathlib.Core.List.{List, [], _∷_}
@@ -9,15 +9,16 @@ use Rattle.table.specs.declared.Kind.the-variants.{Deferrable, Periodic}
 use Rattle.table.specs.declared.Release.{Release}
 use Rattle.table.specs.declared.Release.the-variants.{Once, Every}
 use Rattle.table.specs.declared.Table.{Table}
+use Rattle.refusals.specs.declared.Ground.the-variants.{Misplaced, LeadingZero}
 use Rattle.fields.specs.Fields.{linesOf, allButLast, sameBytes, digitsFrom}
 use Rattle.fields.proofs.Pieces.{split-is, pieces}
 use Rattle.lines.specs.Lines.{lineOf}
 use Rattle.lines.specs.declared.Line.{Line}
 use Rattle.lines.specs.declared.Line.the-variants.{SpanIs, ServerIs, TaskIs, Wrong}
-use Rattle.reading.specs.Reading.{noTable, accepted, endedOf, afterLine, readLines, readingOf}
+use Rattle.reading.specs.Reading.{noTable, refusal, accepted, endedOf, afterLine, readLines, readingOf}
 use Rattle.reading.specs.Pieces.{withLine}
 use Rattle.reading.specs.declared.Reading.{Reading}
-use Rattle.reading.specs.Examples.{textA, textB, textC, textFree, readA, readB, readC, readFree, Checked}
+use Rattle.reading.specs.Examples.{textA, textB, textC, textFree, textZero, readA, readB, readC, readFree, Checked}
 
 -- ---- lines of which it is known what they say
 
@@ -52,7 +53,7 @@ a-server k c t = ServerIs (record { kind = k; capacity = c; period = t })
 abbrev a-task : ℕ → ℕ → Release → ℕ → Line
 a-task s w r d = TaskIs (record { server = s; work = w; release = r; deadline = d })
 
--- ---- the four texts
+-- ---- the five texts
 
 abbrev saidA : List Line
 saidA = SpanIs 0 ∷ a-server Deferrable 3 10 ∷ a-server Deferrable 2 4 ∷ a-task 1 1 (Every 0 4) 4 ∷ a-task 2 1 (Every 0 5) 5 ∷ a-task 2 2 (Every 0 8) 8 ∷ []
@@ -101,5 +102,16 @@ read-free : readingOf textFree ≡ accepted readFree
 unfolding all serverPeriods taskPeriods firstMultiple
 read-free = ap (λ ls. readLines ls noTable 1) (lines-are textFree) ∙ said-reads saidFree _ noTable 1 says-free
 
+-- what the last line says is not asked for: no server stands above it
+abbrev saidZero : List Line
+saidZero = SpanIs 8 ∷ Wrong LeadingZero 4 ∷ Wrong Misplaced 0 ∷ []
+
+says-zero : LinesSay saidZero (allButLast (pieces 10 textZero)) noTable 1
+unfolding all allButLast sameBytes digitsFrom
+says-zero = (rw split-is (rw split-is refl), (rw split-is (rw split-is refl), (rw split-is refl, tt)))
+
+read-zero : readingOf textZero ≡ refusal LeadingZero 2 4
+read-zero = ap (λ ls. readLines ls noTable 1) (lines-are textZero) ∙ said-reads saidZero _ noTable 1 says-zero
+
 pub checked : Checked
-checked = record { a = read-a; b = read-b; c = read-c; free = read-free }
+checked = record { a = read-a; b = read-b; c = read-c; free = read-free; zero = read-zero }

@@ -25,6 +25,7 @@ use Rattle.reading.specs.Reading.{noTable, refusal, withServer, endedOf,
 use Rattle.reading.specs.declared.Reading.{Reading}
 use Rattle.fields.specs.Pieces.{firstLength}
 use Rattle.reading.specs.Pieces.{withLine, goesOn, Feeds}
+use Rattle.refusals.specs.Refusals.{lastPlace}
 use Rattle.refusals.specs.declared.Ground.{Ground}
 use Rattle.fields.specs.declared.Word.{Word}
 use Rattle.fields.specs.declared.Word.the-variants as word
@@ -51,44 +52,49 @@ abbrev pub Says : ℕ → ℕ → Line → Type 0
 Says servers tasks (SpanIs h) = h ≤ 16000
 Says servers tasks (ServerIs s) = SaysServer servers tasks s
 Says servers tasks (TaskIs k) = SaysTask servers tasks k
-Says servers tasks (Wrong w place) = Unit {0}
+Says servers tasks (Wrong w place) = place ≤ lastPlace
 
 and-both : {a b : Bool} → a ≡ true → b ≡ true → (a && b) ≡ true
 and-both {a} {b} p q = rw (p, q)
 
 module _ (servers tasks : ℕ) where
-  pick-says : (b : Bool) (place : ℕ) (w : _) (next : Line) → (b ≡ true → Says servers tasks next) → Says servers tasks (pick b next (Wrong w place))
-  pick-says true place w next h = h refl
-  pick-says false place w next h = tt
+  pick-says : (b : Bool) (place : ℕ) (w : _) (next : Line) → place ≤ lastPlace → (b ≡ true → Says servers tasks next)
+      → Says servers tasks (pick b next (Wrong w place))
+  pick-says true place w next l h = h refl
+  pick-says false place w next l h = l
 
-  field-says : (f : Number) (place : ℕ) (next : ℕ → Line) → ((n : ℕ) → Says servers tasks (next n)) → Says servers tasks (field f place next)
-  field-says (number.Value n) place next h = h n
-  field-says (number.Bad w) place next h = tt
+  field-says : (f : Number) (place : ℕ) (next : ℕ → Line) → place ≤ lastPlace → ((n : ℕ) → Says servers tasks (next n))
+      → Says servers tasks (field f place next)
+  field-says (number.Value n) place next l h = h n
+  field-says (number.Bad w) place next l h = l
 
-  kind-says : (f : KindField) (place : ℕ) (next : Kind → Line) → ((k : Kind) → Says servers tasks (next k)) → Says servers tasks (kindField f place next)
-  kind-says (kind.Is k) place next h = h k
-  kind-says (kind.Bad w) place next h = tt
+  kind-says : (f : KindField) (place : ℕ) (next : Kind → Line) → place ≤ lastPlace → ((k : Kind) → Says servers tasks (next k))
+      → Says servers tasks (kindField f place next)
+  kind-says (kind.Is k) place next l h = h k
+  kind-says (kind.Bad w) place next l h = l
 
-  pair-says : (line : List ℕ) (first second : ℕ) (next : ℕ → ℕ → Line) → ((a b : ℕ) → Says servers tasks (next a b)) → Says servers tasks (numbersAt line first second next)
-  pair-says line first second next h = field-says (fieldNumber (fieldAt line first)) first _ (λ a. field-says (fieldNumber (fieldAt line second)) second _ (h a))
+  pair-says : (line : List ℕ) (first second : ℕ) (next : ℕ → ℕ → Line) → first ≤ lastPlace → second ≤ lastPlace
+      → ((a b : ℕ) → Says servers tasks (next a b)) → Says servers tasks (numbersAt line first second next)
+  pair-says line first second next l m h =
+      field-says (fieldNumber (fieldAt line first)) first _ l (λ a. field-says (fieldNumber (fieldAt line second)) second _ m (h a))
 
   span-says : (line : List ℕ) → Says servers tasks (spanLine line)
   span-says line =
-      pick-says (eqb (length (fieldsOf line)) 2) 0 _ _ (λ e. go (sameBytes (fieldAt line 2) dash))
+      pick-says (eqb (length (fieldsOf line)) 2) 0 _ _ (omega arith) (λ e. go (sameBytes (fieldAt line 2) dash))
     where
       go : (b : Bool) → Says servers tasks (pick b (SpanIs 0) (numberAt line 2 (λ h. ranged (inTicks h) 2 (SpanIs h))))
       go true = omega arith
       go false =
-          field-says (fieldNumber (fieldAt line 2)) 2 _
-          (λ h. pick-says (inTicks h) 2 _ _ (λ e. leb-true h 16000 (and-right (leb 1 h) (leb h 16000) e)))
+          field-says (fieldNumber (fieldAt line 2)) 2 _ (omega arith)
+          (λ h. pick-says (inTicks h) 2 _ _ (omega arith) (λ e. leb-true h 16000 (and-right (leb 1 h) (leb h 16000) e)))
 
   server-says : (line : List ℕ) → servers < 16 → tasks ≡ 0 → Says servers tasks (serverLine line)
   server-says line r z =
-      pick-says (eqb (length (fieldsOf line)) 4) 0 _ _ (λ e.
-      kind-says (kindOf (fieldAt line 2)) 2 _ (λ k.
-      pair-says line 3 4 _ (λ c t.
-      pick-says (inTicks c && leb c t) 3 _ _ (λ p.
-      pick-says (inTicks t) 4 _ _ (λ q. record {
+      pick-says (eqb (length (fieldsOf line)) 4) 0 _ _ (omega arith) (λ e.
+      kind-says (kindOf (fieldAt line 2)) 2 _ (omega arith) (λ k.
+      pair-says line 3 4 _ (omega arith) (omega arith) (λ c t.
+      pick-says (inTicks c && leb c t) 3 _ _ (omega arith) (λ p.
+      pick-says (inTicks t) 4 _ _ (omega arith) (λ q. record {
         room = r;
         first = z;
         obeys = and-both (and-left (inTicks c) (leb c t) p) (and-both q (and-right (inTicks c) (leb c t) p));
@@ -98,35 +104,35 @@ module _ (servers tasks : ℕ) where
   module _ (r : tasks < 64) (s w d : ℕ) where
     release-says : (x : Release) → between 1 servers s ≡ true → inTicks w ≡ true → Says servers tasks (releaseIs x (record { server = s; work = w; release = x; deadline = d }))
     release-says (release.Once i) p q =
-        pick-says (leb i 16000) 4 _ _ (λ u. pick-says (inTicks d) 5 _ _ (λ v. record { room = r; obeys = and-both p (and-both q (and-both u v)) }))
+        pick-says (leb i 16000) 4 _ _ (omega arith) (λ u. pick-says (inTicks d) 5 _ _ (omega arith) (λ v. record { room = r; obeys = and-both p (and-both q (and-both u v)) }))
     release-says (release.Every o t) p q =
-        pick-says (leb o 16000) 4 _ _ (λ u.
-        pick-says (inTicks t) 5 _ _ (λ v. pick-says (inTicks d) 6 _ _ (λ x. record { room = r; obeys = and-both p (and-both q (and-both (and-both u v) x)) })))
+        pick-says (leb o 16000) 4 _ _ (omega arith) (λ u.
+        pick-says (inTicks t) 5 _ _ (omega arith) (λ v. pick-says (inTicks d) 6 _ _ (omega arith) (λ x. record { room = r; obeys = and-both p (and-both q (and-both (and-both u v) x)) })))
 
     task-says : (x : Release) → Says servers tasks (taskIs servers (record { server = s; work = w; release = x; deadline = d }))
-    task-says x = pick-says (between 1 servers s) 2 _ _ (λ p. pick-says (inTicks w) 3 _ _ (λ q. release-says x p q))
+    task-says x = pick-says (between 1 servers s) 2 _ _ (omega arith) (λ p. pick-says (inTicks w) 3 _ _ (omega arith) (λ q. release-says x p q))
 
   once-says : (line : List ℕ) → tasks < 64 → Says servers tasks (onceLine servers line)
   once-says line r =
-      pick-says (eqb (length (fieldsOf line)) 5) 0 _ _ (λ e. pair-says line 2 3 _ (λ s w. pair-says line 4 5 _ (λ i d. task-says r s w d (release.Once i))))
+      pick-says (eqb (length (fieldsOf line)) 5) 0 _ _ (omega arith) (λ e. pair-says line 2 3 _ (omega arith) (omega arith) (λ s w. pair-says line 4 5 _ (omega arith) (omega arith) (λ i d. task-says r s w d (release.Once i))))
 
   every-says : (line : List ℕ) → tasks < 64 → Says servers tasks (everyLine servers line)
   every-says line r =
-      pick-says (eqb (length (fieldsOf line)) 6) 0 _ _ (λ e.
-      pair-says line 2 3 _ (λ s w. pair-says line 4 5 _ (λ o p. field-says (deadlineOf (fieldAt line 6) p) 6 _ (λ d. task-says r s w d (release.Every o p)))))
+      pick-says (eqb (length (fieldsOf line)) 6) 0 _ _ (omega arith) (λ e.
+      pair-says line 2 3 _ (omega arith) (omega arith) (λ s w. pair-says line 4 5 _ (omega arith) (omega arith) (λ o p. field-says (deadlineOf (fieldAt line 6) p) 6 _ (omega arith) (λ d. task-says r s w d (release.Every o p)))))
 
   -- a task line behind a server
   placed-says : (next : Line) → (tasks < 64 → Says servers tasks next) → Says servers tasks (taskPlaced servers tasks next)
-  placed-says next h = pick-says (ltb 0 servers) 0 _ _ (λ e. pick-says (ltb tasks 64) 0 _ _ (λ f. h (ltb-true tasks 64 f)))
+  placed-says next h = pick-says (ltb 0 servers) 0 _ _ (omega arith) (λ e. pick-says (ltb tasks 64) 0 _ _ (omega arith) (λ f. h (ltb-true tasks 64 f)))
 
   word-says : (w : Word) (n : ℕ) (line : List ℕ) → Says servers tasks (byWord w n servers tasks line)
-  word-says word.Span n line = pick-says (eqb n 1) 0 _ _ (λ e. span-says line)
+  word-says word.Span n line = pick-says (eqb n 1) 0 _ _ (omega arith) (λ e. span-says line)
   word-says word.Server n line =
-      pick-says (ltb 1 n && eqb tasks 0) 0 _ _ (λ e.
-      pick-says (ltb servers 16) 0 _ _ (λ f. server-says line (ltb-true servers 16 f) (eqb-true tasks 0 (and-right (ltb 1 n) (eqb tasks 0) e))))
+      pick-says (ltb 1 n && eqb tasks 0) 0 _ _ (omega arith) (λ e.
+      pick-says (ltb servers 16) 0 _ _ (omega arith) (λ f. server-says line (ltb-true servers 16 f) (eqb-true tasks 0 (and-right (ltb 1 n) (eqb tasks 0) e))))
   word-says word.Once n line = placed-says (onceLine servers line) (once-says line)
   word-says word.Every n line = placed-says (everyLine servers line) (every-says line)
-  word-says word.Unknown n line = tt
+  word-says word.Unknown n line = omega arith
 
   pub line-says : (n : ℕ) (line : List ℕ) → Says servers tasks (lineOf n servers tasks line)
   line-says n line = word-says (wordOf (fieldAt line 1)) n line

@@ -1,5 +1,5 @@
--- Document 01, 'What the report program prints' and examples 11 and 12: the texts of tables A, B and C, and the tables that they are read to; and a
--- text for two sentences that forbid nothing.
+-- Document 01, 'What the report program prints' and examples 11 and 12: the texts of tables A, B and C, and the tables that they are read to; a
+-- text for two sentences that forbid nothing; and one that is refused for a field (document 02, E2).
 use Prim.Native.Nat.{ℕ}
 use mathlib.Core.Path.{_≡_}
 use mathlib.Core.List.{List, [], _∷_}
@@ -8,7 +8,8 @@ use Rattle.table.specs.Rules.{noServer, noTask}
 use Rattle.table.specs.declared.Kind.the-variants.{Deferrable, Periodic}
 use Rattle.table.specs.declared.Release.the-variants.{Once, Every}
 use Rattle.table.specs.declared.Table.{Table}
-use Rattle.reading.specs.Reading.{accepted, readingOf}
+use Rattle.refusals.specs.declared.Ground.the-variants.{LeadingZero}
+use Rattle.reading.specs.Reading.{refusal, accepted, readingOf}
 
 -- its span and its deadlines are the multiple and the periods
 -- span -
@@ -122,8 +123,19 @@ readFree = record {
   tasks = record { server = 1; work = 5; release = Every 0 4; deadline = 9 } ∷ replicate 63 noTask;
 }
 
+-- a leading zero in the period of line 2:
+-- span 8
+-- server deferrable 1 04
+-- once 1 4 3 5
+abbrev pub textZero : List ℕ
+textZero =
+    115 ∷ 112 ∷ 97 ∷ 110 ∷ 9 ∷ 56 ∷ 10
+    ∷ 115 ∷ 101 ∷ 114 ∷ 118 ∷ 101 ∷ 114 ∷ 9 ∷ 100 ∷ 101 ∷ 102 ∷ 101 ∷ 114 ∷ 114 ∷ 97 ∷ 98 ∷ 108 ∷ 101 ∷ 9 ∷ 49 ∷ 9 ∷ 48 ∷ 52 ∷ 10
+    ∷ 111 ∷ 110 ∷ 99 ∷ 101 ∷ 9 ∷ 49 ∷ 9 ∷ 52 ∷ 9 ∷ 51 ∷ 9 ∷ 53 ∷ 10 ∷ []
+
 pub record Checked : Type 0 where
   pub a : readingOf textA ≡ accepted readA
   pub b : readingOf textB ≡ accepted readB
   pub c : readingOf textC ≡ accepted readC
   pub free : readingOf textFree ≡ accepted readFree
+  pub zero : readingOf textZero ≡ refusal LeadingZero 2 4

@@ -1,12 +1,12 @@
 -- Whether a call was accepted can be told from its number. Assumes nothing.
 use Prim.Native.Nat.{_≤_, _<_}
 use native.Mathlib.Omega.{arith}
-use Rattle.refusals.specs.Refusals.{numberOf}
+use Rattle.refusals.specs.Refusals.{numberOf, lastNumber}
 use Rattle.refusals.specs.declared.Ground.{Ground}
 use Rattle.refusals.specs.declared.Ground.the-variants as ground
 
--- a refusal's number is from 1 to 13
-number-within : (g : Ground) → (0 < numberOf g) × (numberOf g ≤ 13)
+-- a refusal's number is from 1 to the last
+number-within : (g : Ground) → (0 < numberOf g) × (numberOf g ≤ lastNumber)
 number-within ground.TextTooLong = (omega arith, omega arith)
 number-within ground.NotEnded = (omega arith, omega arith)
 number-within ground.Misplaced = (omega arith, omega arith)
@@ -31,5 +31,5 @@ number-within ground.RulesBroken = (omega arith, omega arith)
 pub number-some : (g : Ground) → 0 < numberOf g
 number-some g = number-within g .0
 
-pub number-most : (g : Ground) → numberOf g ≤ 13
+pub number-most : (g : Ground) → numberOf g ≤ lastNumber
 number-most g = number-within g .1

@@ -7,7 +7,7 @@ use Rattle.refusals.specs.declared.Refusal.{Refusal}
 use Rattle.refusals.specs.declared.Written.{Written}
 use Rattle.refusals.specs.declared.Written.the-variants as written
 
--- "A refusal hands back number and line only"
+-- "A refusal hands back number and line only", and the place (document 02, E2)
 pub data Outcome (A : Type 0) : Type 0 where
   refused : Refusal → Outcome A
   answer : A → Outcome A

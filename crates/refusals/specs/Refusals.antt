@@ -1,4 +1,4 @@
--- Document 01, 'Numbers given on refusal': every ground, and its number.
+-- Document 01, 'Numbers given on refusal', and document 02: every ground, and its number.
 use Prim.Native.Nat.{ℕ}
 use Rattle.refusals.specs.declared.Ground.{Ground}
 use Rattle.refusals.specs.declared.Ground.the-variants as ground
@@ -13,13 +13,14 @@ numberOf ground.Misplaced = 3
 numberOf ground.Missing = 3
 -- 4 "wrong count of fields"
 numberOf ground.FieldCount = 4
--- 5 "a field is no number, or `-` not allowed, or server kind unknown"
+-- document 02, E2: 5 "is to mean an empty field only"; "14 for `-` where it isn't allowed, 15 for a byte that is no digit, 16 for a leading zero, 17 for
+-- more than five digits, 18 for an unknown server kind"
 numberOf ground.Empty = 5
-numberOf ground.Dash = 5
-numberOf ground.NoDigit = 5
-numberOf ground.LeadingZero = 5
-numberOf ground.TooManyDigits = 5
-numberOf ground.UnknownKind = 5
+numberOf ground.Dash = 14
+numberOf ground.NoDigit = 15
+numberOf ground.LeadingZero = 16
+numberOf ground.TooManyDigits = 17
+numberOf ground.UnknownKind = 18
 -- 6 "number outside its range"; 7 "a 17th server or 65th task"
 numberOf ground.OutOfRange = 6
 numberOf ground.TooMany = 7
@@ -37,11 +38,19 @@ numberOf ground.OutOfStep = 13
 -- document 02, E1: "13 if the table breaks the rules"
 numberOf ground.RulesBroken = 13
 
--- "With each goes a line number, counted from 1, and 0 except for 3 to 7"; the place is the field's, the line's first word being 1, or 0
+-- the largest number
+abbrev pub lastNumber : ℕ
+lastNumber = 18
+
+-- the last place of the longest line, `every`
+abbrev pub lastPlace : ℕ
+lastPlace = 6
+
+-- "With each goes a line number, counted from 1"; "5, 6 and 14 to 18 give line and field's place, the line's first word being 1"
 abbrev pub refusedAt : Ground → ℕ → ℕ → Refusal
 refusedAt g line place = record { number = numberOf g; line = line; place = place }
 
--- "0 except for 3 to 7"
+-- where no line is meant, both are 0; "other refusals give place 0"
 abbrev pub refusedFor : Ground → Refusal
 refusedFor g = refusedAt g 0 0
 

@@ -40,7 +40,7 @@ pub enum Written {
     Refused(Refusal),
 }
 
-// 01's number for what is wrong.
+// The number that 01 and 02 give what is wrong.
 pub fn number_of(ground: Ground) -> u32
     ensures { λ r. ⌜ r ≡ numberOf ground ⌝ }
 {
@@ -52,11 +52,11 @@ pub fn number_of(ground: Ground) -> u32
         Ground::TooMany => 7,
         Ground::FieldCount => 4,
         Ground::Empty => 5,
-        Ground::Dash => 5,
-        Ground::NoDigit => 5,
-        Ground::LeadingZero => 5,
-        Ground::TooManyDigits => 5,
-        Ground::UnknownKind => 5,
+        Ground::Dash => 14,
+        Ground::NoDigit => 15,
+        Ground::LeadingZero => 16,
+        Ground::TooManyDigits => 17,
+        Ground::UnknownKind => 18,
         Ground::OutOfRange => 6,
         Ground::MultipleOver => 8,
         Ground::WorkRoom => 9,

@@ -1,8 +1,9 @@
--- Document 01: the printed report of table A, and those of tables B and C (examples 11 and 12), from the text to the byte.
+-- Document 01: the printed report of table A, and those of tables B and C (examples 11 and 12), and of a text that is refused for a
+-- field (document 02, E2), from the text to the byte.
 use Prim.Native.Nat.{ℕ}
 use mathlib.Core.Path.{_≡_}
 use mathlib.Core.List.{List, [], _∷_}
-use Rattle.reading.specs.Examples.{textA, textB, textC}
+use Rattle.reading.specs.Examples.{textA, textB, textC, textZero}
 use Rattle.reporting.specs.Reporting.{reportFor}
 
 -- span 40
@@ -46,7 +47,12 @@ printedC =
     ∷ 116 ∷ 97 ∷ 115 ∷ 107 ∷ 9 ∷ 49 ∷ 9 ∷ 119 ∷ 111 ∷ 114 ∷ 115 ∷ 116 ∷ 9 ∷ 52 ∷ 9 ∷ 51 ∷ 9 ∷ 49 ∷ 10
     ∷ 116 ∷ 97 ∷ 115 ∷ 107 ∷ 9 ∷ 50 ∷ 9 ∷ 119 ∷ 111 ∷ 114 ∷ 115 ∷ 116 ∷ 9 ∷ 51 ∷ 9 ∷ 48 ∷ 9 ∷ 45 ∷ 49 ∷ 10 ∷ []
 
+-- refused 16 2 4
+abbrev pub printedZero : List ℕ
+printedZero = 114 ∷ 101 ∷ 102 ∷ 117 ∷ 115 ∷ 101 ∷ 100 ∷ 9 ∷ 49 ∷ 54 ∷ 9 ∷ 50 ∷ 9 ∷ 52 ∷ 10 ∷ []
+
 pub record Checked : Type 0 where
   pub table-a : reportFor textA ≡ printedA
   pub table-b : reportFor textB ≡ printedB
   pub table-c : reportFor textC ≡ printedC
+  pub zero : reportFor textZero ≡ printedZero

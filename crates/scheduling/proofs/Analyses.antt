@@ -75,6 +75,7 @@ refused-within : (refusal : Refusal) {table : Table} → TurnedAway 4097 refusal
 refused-within refusal t = record {
   number = t .few;
   line = t .line;
+  place = t .place;
   span = omega arith;
   of-server = λ i h. absurd (omega arith);
   of-task = λ k h. absurd (omega arith);
@@ -84,6 +85,7 @@ answered-within : (table : Table) → Obeyed table → Within (analysed table)
 answered-within table ok = record {
   number = omega arith;
   line = omega arith;
+  place = omega arith;
   span = span-most table ok;
   of-server = λ i h. server-entry table ok ServerWithin i h (server-within table ok i h);
   of-task = λ k h. task-entry table ok (λ a. ResponseWithin (a .response)) k h (task-within table ok k h);

@@ -1,4 +1,4 @@
--- What the analysis answers of a text: the answers of all servers and tasks by value, or number and line.
+-- What the analysis answers of a text: the answers of all servers and tasks by value, or a refusal.
 use Prim.Native.Nat.{ℕ, _<_}
 use mathlib.Core.Path.{_≡_}
 use mathlib.Core.List.{List}
@@ -13,7 +13,7 @@ use Rattle.refusals.specs.declared.Refusal.{Refusal}
 use Rattle.opening.specs.Opening.{roomy, answerOf}
 use Rattle.scheduling.specs.Buffers.{Buffers}
 
--- "A refusal hands back number and line only"
+-- "A refusal hands back number and line only", and the place (document 02, E2)
 abbrev pub notAnalysed : Refusal → Analysis
 notAnalysed refusal = record {
   refusal = refusal;

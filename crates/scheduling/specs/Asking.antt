@@ -15,7 +15,7 @@ use Rattle.refusals.specs.declared.Refusal.{Refusal}
 use Rattle.opening.specs.Opening.{roomy, answerOf}
 use Rattle.scheduling.specs.Buffers.{Buffers}
 
--- "A refusal hands back number and line only"
+-- "A refusal hands back number and line only", and the place (document 02, E2)
 abbrev pub noWho : Refusal → Who
 noWho refusal = record { refusal = refusal; holder = 0; runner = 0 }
 

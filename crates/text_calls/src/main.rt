@@ -5,14 +5,14 @@
 //     3 HEX                        reading: `refused number line place`, or
 //                                  `span h | server kind c t .. | once server work instant deadline | every server work offset period deadline ..`
 //     4 HEX                        holder and runner of each tick, from the curves and from the machine: `same` at the end, or `differs` at the
-//                                  first tick where they differ; or `refused number line`
-//     5 room HEX                   the report into a lent buffer of so many bytes, 4,096 at most: `count n` or `refused 11 0`, and behind ` | ` the
+//                                  first tick where they differ; or `refused number line place`
+//     5 room HEX                   the report into a lent buffer of so many bytes, 4,096 at most: `count n` or `refused 11 0 0`, and behind ` | ` the
 //                                  bytes of the buffer and of the guard of 8 behind it as digits. Byte i was i % 251
 //     6 a b c d e f HEX            the analysis on six lent buffers of so many numbers, 16,008 each at most: `answers span servers tasks` or
-//                                  `refused number line`, and behind ` |` for each buffer `zero` where all of it is 0 and the guard behind it as it
+//                                  `refused number line place`, and behind ` |` for each buffer `zero` where all of it is 0 and the guard behind it as it
 //                                  was, `same` where both are, `other` elsewhere. Number i was 7,000,000 + i, of 16,016 with the guard
-//     7 tick a b c d e f HEX       who holds a tick, from the curves: `who holder runner` or `refused number line`, and the same for each buffer
-//     8 HEX                        the table written back, with a number for every `-`, or `refused`, number and line, parted by tabs; then an empty line
+//     7 tick a b c d e f HEX       who holds a tick, from the curves: `who holder runner` or `refused number line place`, and the same for each buffer
+//     8 HEX                        the table written back, with a number for every `-`, or `refused`, number, line and place, parted by tabs; then an empty line
 // A line that starts with `#` is copied, and a line of any other form is answered by `bad`; so is every line of more than 1,048,576 bytes, its
 // line feed counted. The input may have any length, and its last line needs no line feed.
 use batch::INPUT;
@@ -36,6 +36,18 @@ ghost use Prim.Native.Nat.{_<_};
 ghost use lib.ListN.{length};
 ghost use Rattle.text_lines.specs.Fits.{Fits};
 
+// Puts the answer to a call that takes a text and nothing else.
+fn answer_text(kind: u32, out: &mut [u8; 65536], n: usize, text: &[u8]) -> usize {
+    match kind {
+        1 => put_report(out, n, text),
+        2 => put_machine_report(out, n, text),
+        3 => put_reading(out, n, text),
+        4 => put_ticks(out, n, text),
+        8 => put_rewritten(out, n, text),
+        _ => put_bad(out, n),
+    }
+}
+
 // Puts the answer to what a line asks for.
 fn answer(asked: Asked, out: &mut [u8; 65536], n: usize) -> usize
     requires { ⌜ Fits asked ⌝ }
@@ -46,15 +58,10 @@ fn answer(asked: Asked, out: &mut [u8; 65536], n: usize) -> usize
     let count = asked.count;
     let text: &[u8] = &bytes[..count];
     match kind {
-        1 => put_report(out, n, text),
-        2 => put_machine_report(out, n, text),
-        3 => put_reading(out, n, text),
-        4 => put_ticks(out, n, text),
         5 => put_with_room(out, n, text, asked.first as usize),
         6 => put_call(out, n, Call::Analyse, text, rooms),
         7 => put_call(out, n, Call::WhoAt(asked.first), text, rooms),
-        8 => put_rewritten(out, n, text),
-        _ => put_bad(out, n),
+        _ => answer_text(kind, out, n, text),
     }
 }
 

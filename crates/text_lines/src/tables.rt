@@ -4,7 +4,6 @@ use batch::put_number;
 use batch::put_word;
 use call_lines::put_refused;
 use reading::Answer;
-use refusals::Refusal;
 use table::Kind;
 use table::Release;
 use table::Server;
@@ -14,12 +13,6 @@ use table::Task;
 // Puts a space and a number of a table.
 fn put_field(out: &mut [u8; 65536], n: usize, value: u32) -> usize {
     put_number(out, n, value as u64)
-}
-
-// Puts a refusal: its number, line and place.
-fn put_fault(out: &mut [u8; 65536], n: usize, refusal: Refusal) -> usize {
-    let m = put_refused(out, n, refusal);
-    put_field(out, m, refusal.place)
 }
 
 // Puts a server.
@@ -104,7 +97,7 @@ pub fn put_reading(out: &mut [u8; 65536], n: usize, text: &[u8]) -> usize {
     let table = read.table;
     let m = match answer {
         Answer::Accepted => put_table(out, n, table),
-        Answer::Refused(refusal) => put_fault(out, n, refusal),
+        Answer::Refused(refusal) => put_refused(out, n, refusal),
     };
     put_byte(out, m, b'\n')
 }

@@ -1,14 +1,15 @@
 -- `grodvejas::grod_analyse` meets its contract: the answers are handed out.
-use mathlib.Core.Path.{_≡_, sym}
+use mathlib.Core.Path.{sym}
 use borrow.Author.Needs.{needs}
 use Rattle.scheduling.proofs.Calls.{by-number}
+use Rattle.giving.proofs.Given.{same-number}
 use Rattle.grodvejas.proofs.Texts.{answers-fit}
 use Rattle.grodvejas.proofs.grod_analyse.Statement.{statement}
 use Rattle.grodvejas.proofs.grod_analyse.Tie as tie
 
 -- the call, from in front of the handing out
-abbrev handing : tie.After-hand-analysis-arg7 → tie.After-analyse
-handing c = c .before .before .before .before .before .before .before .before .before .before .before .before .before .before .before .before .before .before .before
+abbrev handing : tie.After-hand-analysis-arg8 → tie.After-analyse
+handing c = c .before .before .before .before .before .before .before .before .before .before .before .before .before .before .before .before .before .before .before .before
 
 -- and from behind it
 abbrev asked : tie.After-hand-analysis → tie.After-analyse
@@ -41,7 +42,8 @@ same-length-6 c = asked c .analyse .kept .1 .1 .1 .1 .1 .1 .0
 returns : tie.Need-returns
 returns c =
     let w = asked c .analyse .ensures in
-    record { answers = rw (w .answer) at (c .hand-analysis .ensures); buffers = by-number (sym (c .hand-analysis .ensures .number)) (w .buffers) }
+    let h = c .hand-analysis .ensures in
+    record { answers = rw (w .answer) at h; buffers = by-number (sym (same-number (h .refusal-is))) (w .buffers) }
 
 pub grod-analyse-spec : {M : Type 1} → statement M
 grod-analyse-spec =

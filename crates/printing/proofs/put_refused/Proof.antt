@@ -1,4 +1,4 @@
--- `printing::put_refused` meets its contract: the word, two fields and the line feed.
+-- `printing::put_refused` meets its contract: the word, three fields and the line feed.
 use Rattle.putting.proofs.Puts.{put-more}
 use Rattle.printing.specs.Report.{refusedLine}
 use borrow.Author.Needs.{needs}
@@ -14,6 +14,9 @@ put-labelled-requires c κs = search needs
 put-field-requires : tie.Need-put-field-requires
 put-field-requires c κs = search needs
 
+put-field-requires-2 : tie.Need-put-field-requires-2
+put-field-requires-2 c κs = search needs
+
 put-byte-requires : tie.Need-put-byte-requires
 put-byte-requires c κs = search needs
 
@@ -24,9 +27,12 @@ returns : tie.Need-returns
 unfolding refusedLine
 returns c =
     let feed = c .before .before in
-    let line = feed .before .before .before .before in
-    let number = line .before .before .before .before in
-    (put-more (number .put-labelled .ensures .0) (put-more (line .put-field .ensures .0) (feed .put-byte .ensures)), search needs)
+    let place = feed .before .before .before .before in
+    let line = place .before .before .before .before in
+    let number = line .before .before .before .before in (
+      put-more (number .put-labelled .ensures .0) (put-more (line .put-field .ensures .0) (put-more (place .put-field2 .ensures .0) (feed .put-byte .ensures))),
+      search needs,
+    )
 
 pub put-refused-spec : {M : Type 1} → statement M
 put-refused-spec =
@@ -35,6 +41,7 @@ put-refused-spec =
     slice-aggregate-put-labelled
     put-labelled-requires
     put-field-requires
+    put-field-requires-2
     put-byte-requires
     same-length
     returns)

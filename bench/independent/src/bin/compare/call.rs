@@ -59,7 +59,7 @@ pub fn lent(room: usize) -> Vec<u8> {
 pub fn put_lent(result: Result<usize, Refusal>, buffer: &[u8], answer: &mut Vec<u8>) -> u32 {
     let (words, ground) = match result {
         Ok(count) => (format!("count {count}"), 0),
-        Err(Refusal { number, line, .. }) => (format!("refused {number} {line}"), number),
+        Err(refusal) => (refusal.words(' '), refusal.number),
     };
     answer.extend(words.bytes());
     answer.extend(b" | ");
@@ -73,4 +73,26 @@ pub fn put_hex(bytes: &[u8], line: &mut Vec<u8>) {
         line.push(b"0123456789abcdef"[usize::from(byte >> 4)]);
         line.push(b"0123456789abcdef"[usize::from(byte & 15)]);
     }
+}
+
+/// Checks that what a program has to print on its stored input is what this package says. Lines that are no call are `bad`; those
+/// with `#` at their front are copied.
+#[cfg(all(test, not(feature = "wrong")))]
+pub fn check_stored<C: Call>(call_of: impl Fn(&str) -> Option<C>) {
+    let folder = std::path::Path::new(env!("CARGO_MANIFEST_DIR")).join("../../crates").join(C::PROGRAM);
+    let stored = |name: &str| std::fs::read_to_string(folder.join(name)).unwrap();
+    let mut answer = Vec::new();
+    for line in stored("stdin").lines() {
+        if line.starts_with('#') {
+            answer.extend(format!("{line}\n").bytes());
+        } else if let Some(call) = call_of(line) {
+            call.put_answer(&mut answer);
+        } else {
+            answer.extend(b"bad\n");
+        }
+    }
+    let (answer, stored) = (String::from_utf8(answer).unwrap(), stored("stdout"));
+    let differing = answer.lines().zip(stored.lines()).enumerate().find(|(_, (expected, stored))| expected != stored);
+    assert_eq!(differing, None);
+    assert_eq!(answer.len(), stored.len());
 }

@@ -8,8 +8,8 @@ use std::sync::Mutex;
 
 /// A batch gets no more calls once it has so many bytes.
 const MOST_INPUT: usize = 900_000;
-/// Grounds of refusal are numbered up to 13; 0 stands for accepted calls.
-pub const GROUNDS: usize = 14;
+/// Grounds of refusal are numbered up to 18; 0 stands for accepted calls.
+pub const GROUNDS: usize = 19;
 /// How many smaller calls are tried to shrink one that differs.
 const MOST_TRIES: usize = 1500;
 

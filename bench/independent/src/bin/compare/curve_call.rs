@@ -1,7 +1,7 @@
 //! Calls on curves, for the program `curve_calls`.
 
 use crate::call::{shorter_lists, smaller_numbers, Call};
-use independent::curves;
+use independent::{curves, Refusal};
 
 #[derive(Clone, Debug)]
 pub enum CurveCall {
@@ -149,7 +149,7 @@ fn put_curve(curve: &[u32], line: &mut Vec<u8>) {
 fn put_result(result: Result<String, u32>, buffers: &[Vec<u32>], answer: &mut Vec<u8>) -> u32 {
     let (words, refusal) = match result {
         Ok(words) => (words, 0),
-        Err(number) => (format!("refused {number} 0"), number),
+        Err(number) => (Refusal::plain(number).words(' '), number),
     };
     answer.extend(words.bytes());
     for buffer in buffers {

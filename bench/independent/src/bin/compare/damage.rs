@@ -9,13 +9,26 @@ const MOST_TEXT: usize = 4990;
 /// Bytes that replace or join others.
 const BYTES: [u8; 16] = [0, 255, b'\r', b'\t', b'\n', b' ', b'-', b'+', b'/', b':', b'0', b'1', b'9', b'a', b'S', 128];
 
-/// Words that replace fields: numbers at the edges of every range, numbers badly written, words with capitals.
+/// Words that are refused in most fields, each ground of a field several times: empty, `-`, a byte that is no digit, a leading zero,
+/// too many digits, several of these in one, below and above the range, a capacity above its period, a kind unknown or with capitals,
+/// a carriage return behind a good word.
 #[rustfmt::skip]
-const WORDS: [&str; 40] = [
-    "0", "1", "2", "3", "16", "17", "64", "15999", "16000", "16001", "65535", "65536", "99999", "100000", "016000", "00", "01",
-    "016", "-", "--", "-1", "+1", "1.0", " 1", "1 ", "", "1a", "a1", "0x1", "4294967296", "4294967297", "deferrable",
-    "Deferrable", "PERIODIC", "periodic", "span", "server", "once", "every", "Every",
+const FAULTS: [&str; 21] = [
+    "", "-", "x", "--", "-5", "0x", "00000x", "00", "01", "016", "000000", "012345", "123456", "0", "16000", "16001", "99999",
+    "Deferrable", "PERIODIC", "1\r", "periodic\r",
 ];
+
+/// Other words that replace fields: numbers at the edges of every range, numbers badly written, the words of a table.
+#[rustfmt::skip]
+const WORDS: [&str; 28] = [
+    "1", "2", "3", "16", "17", "64", "15999", "65535", "65536", "100000", "016000", "-1", "+1", "1.0", " 1", "1 ", "1a", "a1",
+    "0x1", "4294967296", "4294967297", "deferrable", "periodic", "span", "server", "once", "every", "Every",
+];
+
+/// All words that replace fields.
+fn replacements() -> impl Iterator<Item = &'static str> {
+    FAULTS.into_iter().chain(WORDS)
+}
 
 /// A text after one to three random edits.
 pub fn damaged(dice: &mut Dice, text: &[u8]) -> Vec<u8> {
@@ -71,7 +84,7 @@ fn field_edited(dice: &mut Dice, text: &[u8]) -> Vec<u8> {
             fields.swap(at, other);
         }
         3 => fields[at].insert(0, b'0'),
-        _ => fields[at] = dice.pick(&WORDS).as_bytes().to_vec(),
+        _ => fields[at] = dice.pick(&replacements().collect::<Vec<_>>()).as_bytes().to_vec(),
     }
     text_of(&lines)
 }
@@ -147,7 +160,7 @@ pub fn every_byte_edit(text: &[u8]) -> Vec<Vec<u8>> {
     texts
 }
 
-/// The text with each of its fields dropped, doubled, and replaced by every word of the list.
+/// The text with each of its fields dropped, doubled, and replaced by every word of the lists.
 pub fn every_field_edit(text: &[u8]) -> Vec<Vec<u8>> {
     let lines = fields_of(text);
     let mut texts = Vec::new();
@@ -160,10 +173,32 @@ pub fn every_field_edit(text: &[u8]) -> Vec<Vec<u8>> {
             };
             edit(&|fields| drop(fields.remove(at)));
             edit(&|fields| fields.insert(at, fields[at].clone()));
-            for word in WORDS {
+            for word in replacements() {
                 edit(&|fields| fields[at] = word.as_bytes().to_vec());
             }
         }
     }
     texts
+}
+
+/// The text with every two fields of one line, the first words left out, replaced by every two faults.
+pub fn every_two_faults(text: &[u8]) -> Vec<Vec<u8>> {
+    let lines = fields_of(text);
+    let mut texts = Vec::new();
+    for (line, fields) in lines.iter().enumerate() {
+        for (left, right) in every_pair(fields.len()) {
+            for (first, second) in FAULTS.into_iter().flat_map(|first| FAULTS.map(|second| (first, second))) {
+                let mut lines = lines.clone();
+                lines[line][left] = first.as_bytes().to_vec();
+                lines[line][right] = second.as_bytes().to_vec();
+                texts.push(text_of(&lines));
+            }
+        }
+    }
+    texts
+}
+
+/// Every two different places behind the first of so many, the left one first.
+fn every_pair(count: usize) -> impl Iterator<Item = (usize, usize)> {
+    (1..count).flat_map(move |left| (left + 1..count).map(move |right| (left, right)))
 }

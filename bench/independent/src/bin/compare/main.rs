@@ -2,9 +2,10 @@
 //! inputs, feeds them to the programs through pipes, works out what they have to print, and compares byte for byte.
 //!
 //! To see that it finds faults, build it wrong on purpose: `cargo build --release --offline --features wrong`. Then a deferrable
-//! server's budget left at a refill is added to the new one (`machine.rs`), time to provide pushes an exact fit into the next
-//! window (`curves.rs`), and a table's text that just fits is refused (`writing.rs`); differences in all three programs have to come
-//! within seconds. `./compare --wrong` in the repository's root does this. `--help` lists the options.
+//! server's budget left at a refill is added to the new one (`machine.rs`), a leading zero is refused before a byte that is no digit
+//! (`reading.rs`), time to provide pushes an exact fit into the next window (`curves.rs`), and a table's text that just fits is
+//! refused (`writing.rs`); differences in all three programs have to come within seconds. `./compare --wrong` in the repository's
+//! root does this. `--help` lists the options.
 
 mod call;
 mod comparing;

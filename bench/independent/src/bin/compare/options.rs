@@ -27,9 +27,9 @@ differences or that there is none. What differs is first made as small as can be
 could not be run.
 
 To see that the comparison finds faults, build it wrong on purpose: 'cargo build --release --offline --features wrong'. In that
-build a deferrable server's budget left at a refill is added to the new one, an exact fit is pushed into the next window by
-time to provide, and a table's text that just fits is refused. Differences in all three programs come within seconds.
-'./compare --wrong' in the repository does this.
+build a deferrable server's budget left at a refill is added to the new one, a leading zero is refused before a byte that is no
+digit, an exact fit is pushed into the next window by time to provide, and a table's text that just fits is refused. Differences
+in all three programs come within seconds. './compare --wrong' in the repository does this.
 ";
 
 pub struct Options {

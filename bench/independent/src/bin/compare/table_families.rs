@@ -13,6 +13,7 @@ pub fn every_text() -> Vec<Vec<u8>> {
         texts.extend(damage::every_field_edit(&base));
         texts.extend((0..base.len()).map(|length| base[..length].to_vec()));
     }
+    texts.extend(damage::every_two_faults(&tabbed(EACH_KIND_OF_LINE)));
     texts.extend(CORNERS.iter().map(|corner| tabbed(corner)));
     texts.extend(every_order());
     texts.extend(every_fault());
@@ -27,8 +28,11 @@ pub fn every_text() -> Vec<Vec<u8>> {
 const BASES: [&str; 3] = [
     "span -/server deferrable 3 10/server deferrable 2 4/every 1 1 0 4 -/every 2 1 0 5 -/every 2 2 0 8 -/",
     "span 8/server periodic 2 6/server deferrable 1 3/once 1 1 3 5/once 2 1 0 2/",
-    "span 30/server deferrable 2 5/every 1 12 10 15 16000/once 1 1 0 1/",
+    EACH_KIND_OF_LINE,
 ];
+
+/// A table with one line of each kind.
+const EACH_KIND_OF_LINE: &str = "span 30/server deferrable 2 5/every 1 12 10 15 16000/once 1 1 0 1/";
 
 /// Tables at the edges: the longest and the shortest span, the widest margins, the largest multiple, the most waiting work.
 const CORNERS: [&str; 12] = [

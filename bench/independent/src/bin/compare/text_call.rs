@@ -156,11 +156,14 @@ fn put_reading(text: &[u8], answer: &mut Vec<u8>) -> u32 {
             answer.extend(shown(&table).bytes());
             0
         }
-        Err(Refusal { number, line, place }) => {
-            answer.extend(format!("refused {number} {line} {place}").bytes());
-            number
-        }
+        Err(refusal) => put_refusal(refusal, answer),
     }
+}
+
+/// Puts the words of a refusal and gives its ground.
+fn put_refusal(refusal: Refusal, answer: &mut Vec<u8>) -> u32 {
+    answer.extend(refusal.words(' ').bytes());
+    refusal.number
 }
 
 /// A table on one line.
@@ -197,10 +200,7 @@ fn put_each_tick(text: &[u8], answer: &mut Vec<u8>) -> u32 {
             answer.extend(b" same");
             0
         }
-        Err(Refusal { number, line, .. }) => {
-            answer.extend(format!("refused {number} {line}").bytes());
-            number
-        }
+        Err(refusal) => put_refusal(refusal, answer),
     }
 }
 
@@ -219,7 +219,7 @@ fn put_report_into(text: &[u8], room: usize, answer: &mut Vec<u8>) -> u32 {
 fn put_analysis(result: Result<String, Refusal>, rooms: &[usize; 6], answer: &mut Vec<u8>) -> u32 {
     let (words, state, refusal) = match result {
         Ok(words) => (words, "zero", 0),
-        Err(Refusal { number, line, .. }) => (format!("refused {number} {line}"), "same", number),
+        Err(refusal) => (refusal.words(' '), "same", refusal.number),
     };
     answer.extend(words.bytes());
     answer.extend(b" |");
@@ -295,31 +295,56 @@ fn smaller_asked(asked: &Asked) -> Vec<Asked> {
     }
 }
 
-/// What `text_calls` has to print for the tables of its stored input that are written back is what this package says.
-#[cfg(test)]
-#[test]
-fn stored_rewriting() {
-    let folder = std::path::Path::new(env!("CARGO_MANIFEST_DIR")).join("../../crates/text_calls");
-    let stored = |name: &str| std::fs::read_to_string(folder.join(name)).unwrap();
-    let input = stored("stdin");
-    let lines = input.lines().skip_while(|line| *line != "# the table written back").take_while(|line| *line != "# no kind");
-    let mut answer = Vec::new();
-    for line in lines {
-        if line.starts_with('#') {
-            answer.extend(format!("{line}\n").bytes());
-        } else if let Some(text) = line.strip_prefix("8 ").and_then(from_hex) {
-            TextCall { asked: Asked::Rewriting, text }.put_answer(&mut answer);
-        } else {
-            answer.extend(b"bad\n");
-        }
-    }
-    assert!(!answer.is_empty() && stored("stdout").contains(std::str::from_utf8(&answer).unwrap()));
-}
+#[cfg(all(test, not(feature = "wrong")))]
+mod stored {
+    use super::{Asked, TextCall};
 
-/// The bytes that lowercase digits stand for, 5,000 at most.
-#[cfg(test)]
-fn from_hex(digits: &str) -> Option<Vec<u8>> {
-    let value = |digit: &u8| b"0123456789abcdef".iter().position(|other| other == digit);
-    let pair = |pair: &[u8]| Some((value(pair.first()?)? * 16 + value(pair.get(1)?)?) as u8);
-    digits.as_bytes().chunks(2).map(pair).collect::<Option<Vec<u8>>>().filter(|bytes| bytes.len() <= 5000)
+    #[test]
+    fn calls() {
+        crate::call::check_stored(call_of);
+    }
+
+    /// The call of a line: its kind, the numbers of this kind, the text's digits.
+    fn call_of(line: &str) -> Option<TextCall> {
+        let mut words = line.split(' ');
+        let kind = words.next()?;
+        let count = match kind {
+            "5" => 1,
+            "6" => 6,
+            "7" => 7,
+            _ => 0,
+        };
+        let numbers: Vec<u32> = words.by_ref().take(count).map(str::parse).collect::<Result<_, _>>().ok()?;
+        let text = words.next().and_then(from_hex)?;
+        let asked = asked(kind, &numbers)?;
+        words.next().is_none().then_some(TextCall { asked, text })
+    }
+
+    /// What is asked by a kind and its numbers.
+    fn asked(kind: &str, numbers: &[u32]) -> Option<Asked> {
+        Some(match (kind, numbers) {
+            ("1", []) => Asked::Report,
+            ("2", []) => Asked::MachineReport,
+            ("3", []) => Asked::Reading,
+            ("4", []) => Asked::EachTick,
+            ("5", &[room]) => Asked::ReportInto { room: Some(room as usize).filter(|&room| room <= 4096)? },
+            ("6", rooms) => Asked::Analysis { rooms: six_rooms(rooms)? },
+            ("7", [tick, rooms @ ..]) => Asked::WhoAt { tick: *tick, rooms: six_rooms(rooms)? },
+            ("8", []) => Asked::Rewriting,
+            _ => return None,
+        })
+    }
+
+    /// The lengths of six work buffers, 16,008 numbers at most.
+    fn six_rooms(numbers: &[u32]) -> Option<[usize; 6]> {
+        let rooms: [u32; 6] = numbers.try_into().ok()?;
+        rooms.iter().all(|&room| room <= 16_008).then_some(rooms.map(|room| room as usize))
+    }
+
+    /// The bytes that lowercase digits stand for, 5,000 at most.
+    fn from_hex(digits: &str) -> Option<Vec<u8>> {
+        let value = |digit: &u8| b"0123456789abcdef".iter().position(|other| other == digit);
+        let pair = |pair: &[u8]| Some((value(pair.first()?)? * 16 + value(pair.get(1)?)?) as u8);
+        digits.as_bytes().chunks(2).map(pair).collect::<Option<Vec<u8>>>().filter(|bytes| bytes.len() <= 5000)
+    }
 }

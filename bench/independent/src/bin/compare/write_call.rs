@@ -110,29 +110,23 @@ impl WriteCall {
     }
 }
 
-/// What `write_calls` has to print on its stored input is what this package says.
 #[cfg(all(test, not(feature = "wrong")))]
-#[test]
-fn stored_calls() {
-    let folder = std::path::Path::new(env!("CARGO_MANIFEST_DIR")).join("../../crates/write_calls");
-    let stored = |name: &str| std::fs::read_to_string(folder.join(name)).unwrap();
-    let mut answer = Vec::new();
-    for line in stored("stdin").lines() {
-        let numbers: Vec<u32> = line.split(' ').map(str::parse).collect::<Result<_, _>>().unwrap_or_default();
-        if line.starts_with('#') {
-            answer.extend(format!("{line}\n").bytes());
-        } else if is_call(&numbers) {
-            WriteCall::of(&numbers).put_answer(&mut answer);
-        } else {
-            answer.extend(b"bad\n");
-        }
-    }
-    assert!(String::from_utf8(answer).unwrap() == stored("stdout"));
-}
+mod stored {
+    use super::WriteCall;
 
-/// Whether the numbers of a line are those of a call.
-#[cfg(all(test, not(feature = "wrong")))]
-fn is_call(numbers: &[u32]) -> bool {
-    let &[room, _, _, _, servers, tasks, ..] = numbers else { return false };
-    room <= 4096 && servers <= 16 && tasks <= 64 && numbers.len() == (6 + 3 * servers + 6 * tasks) as usize
+    #[test]
+    fn calls() {
+        crate::call::check_stored(call_of);
+    }
+
+    fn call_of(line: &str) -> Option<WriteCall> {
+        let numbers: Vec<u32> = line.split(' ').map(str::parse).collect::<Result<_, _>>().ok()?;
+        is_call(&numbers).then(|| WriteCall::of(&numbers))
+    }
+
+    /// Whether the numbers of a line are those of a call.
+    fn is_call(numbers: &[u32]) -> bool {
+        let &[room, _, _, _, servers, tasks, ..] = numbers else { return false };
+        room <= 4096 && servers <= 16 && tasks <= 64 && numbers.len() == (6 + 3 * servers + 6 * tasks) as usize
+    }
 }

@@ -25,15 +25,25 @@ fn rows_of_text() -> Rows {
     }
 }
 
-/// The number and the line that reading answers, and the rows afterwards.
-fn read(text: &[u8]) -> (u32, u32, Rows) {
-    let (mut line, mut rows) = (BEFORE, UNTOUCHED);
+/// The number, the line and the place that reading answers, and the rows afterwards.
+fn read(text: &[u8]) -> ([u32; 3], Rows) {
+    let (mut line, mut place, mut rows) = (BEFORE, BEFORE, UNTOUCHED);
     let [servers_n, tasks_n] = &mut rows.counts;
     // SAFETY: the pointer and length are of one slice; there are more than 16 and 64 rows; what is written is borrowed for this call alone.
     let number = unsafe {
-        grod_read(text.as_ptr(), text.len(), &mut line, &mut rows.span, servers_n, tasks_n, rows.servers.as_mut_ptr(), rows.tasks.as_mut_ptr())
+        grod_read(
+            text.as_ptr(),
+            text.len(),
+            &mut line,
+            &mut place,
+            &mut rows.span,
+            servers_n,
+            tasks_n,
+            rows.servers.as_mut_ptr(),
+            rows.tasks.as_mut_ptr(),
+        )
     };
-    (number, line, rows)
+    ([number, line, place], rows)
 }
 
 /// The number that writing answers, the count and the buffer afterwards. The rows have to stay as they are.
@@ -83,13 +93,14 @@ fn breaks_the_rules(rows: &Rows) {
 #[test]
 #[cfg_attr(not(grodvejas_linked), ignore = "the library is not linked in")]
 fn rows_beyond_the_counts_keep_what_was_there() {
-    assert_eq!(read(TEXT), (0, 0, rows_of_text()));
+    assert_eq!(read(TEXT), ([0, 0, 0], rows_of_text()));
 }
 
 #[test]
 #[cfg_attr(not(grodvejas_linked), ignore = "the library is not linked in")]
-fn a_refused_reading_changes_the_line_alone() {
-    assert_eq!(read(BAD), (6, 2, UNTOUCHED));
+fn a_refused_reading_changes_line_and_place_alone() {
+    assert_eq!(read(BAD), ([6, 2, 3], UNTOUCHED));
+    assert_eq!(read(b""), ([2, 0, 0], UNTOUCHED));
 }
 
 #[test]

@@ -1,10 +1,11 @@
--- `handing::tables::step_table` meets its contract: a step that is not refused is written back field by field; holder and runner always are.
+-- `giving::step_table` meets its contract: a step that is not refused is written back field by field; holder and runner always are.
 use mathlib.Core.Path.{sym, ap, _∙_}
 use borrow.Author.Needs.{needs}
 use Rattle.machine.specs.declared.Stepped.{Stepped}
-use Rattle.handing.proofs.Given.{refused-stays}
-use Rattle.handing.proofs.tables.step_table.Statement.{statement}
-use Rattle.handing.proofs.tables.step_table.Tie as tie
+use Rattle.giving.specs.Giving.{unplaced}
+use Rattle.giving.proofs.Given.{refused-stays, step-unplaced}
+use Rattle.giving.proofs.step_table.Statement.{statement}
+use Rattle.giving.proofs.step_table.Tie as tie
 
 step-requires : tie.Need-step-requires
 step-requires c κs = search needs
@@ -14,7 +15,7 @@ returns c =
     let e = c .before .before .before .step .ensures in
     let number = ap (λ (s : Stepped). s .refusal .number) e in
     record {
-      number = number;
+      refusal-is = ap unplaced number ∙ step-unplaced _ _;
       next = refused-stays _ _ (λ z. c .if1 .taken (number ∙ z));
       holds = ap (λ (s : Stepped). s .holder) e;
       runs = ap (λ (s : Stepped). s .runner) e;
@@ -24,7 +25,7 @@ returns-2 : tie.Need-returns-2
 returns-2 c =
     let e = c .before .before .before .before .before .before .step .ensures in
     record {
-      number = sym (c .before .before .before .if1 .left) ∙ ap (λ (s : Stepped). s .refusal .number) e;
+      refusal-is = ap unplaced (sym (c .before .before .before .if1 .left) ∙ ap (λ (s : Stepped). s .refusal .number) e) ∙ step-unplaced _ _;
       next = ap (λ (s : Stepped). s .next) e;
       holds = ap (λ (s : Stepped). s .holder) e;
       runs = ap (λ (s : Stepped). s .runner) e;
