@@ -42,7 +42,10 @@ pub const REPORT: usize = 4096;
 pub const TEXT_MOST: usize = 2603;
 
 /// Why a call is refused: the number of the ground; the line of the text, counted from 1, or 0 where no line is meant; and the place of the field in
-/// that line, the line's first word being 1, or 0 where no field is meant. The numbers 5, 6 and 14 to 18 have a place.
+/// that line, the line's first word being 1, or 0 where no field is meant.
+///
+/// Seven numbers have a place: 5 an empty field, 6 a number outside its range, or a capacity above its period, 14 `-` where it is not allowed, 15 a byte
+/// that is no digit, 16 a leading zero, 17 more than five digits, 18 an unknown server kind. README.md and the C header have all numbers.
 #[derive(Clone, Copy, Debug, PartialEq, Eq)]
 pub struct Refusal {
     pub number: u32,

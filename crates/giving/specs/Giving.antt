@@ -1,5 +1,5 @@
 -- What a caller in C gets of a call on a text or a table: 0, or the number of the refusal. "A refusal hands back number and line only and changes nothing
--- lent", and by document 02, E2, "the field's place": what is handed out through a pointer is then as it was before, but for line and place. "A refused
+-- lent", and by document 02, E2, the "field's place": what is handed out through a pointer is then as it was before, but for line and place. "A refused
 -- step also hands back the state it got, with 0 for server and task".
 use Prim.Native.Nat.{ℕ}
 use mathlib.Core.Path.{_≡_}

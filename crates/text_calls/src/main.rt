@@ -12,7 +12,8 @@
 //                                  `refused number line place`, and behind ` |` for each buffer `zero` where all of it is 0 and the guard behind it as it
 //                                  was, `same` where both are, `other` elsewhere. Number i was 7,000,000 + i, of 16,016 with the guard
 //     7 tick a b c d e f HEX       who holds a tick, from the curves: `who holder runner` or `refused number line place`, and the same for each buffer
-//     8 HEX                        the table written back, with a number for every `-`, or `refused`, number, line and place, parted by tabs; then an empty line
+//     8 HEX                        the table written back, with a number for every `-`, or `refused`, number, line and place, parted by tabs; then an
+//                                  empty line
 // A line that starts with `#` is copied, and a line of any other form is answered by `bad`; so is every line of more than 1,048,576 bytes, its
 // line feed counted. The input may have any length, and its last line needs no line feed.
 use batch::INPUT;
