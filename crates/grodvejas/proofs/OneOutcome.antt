@@ -8,8 +8,8 @@ use Rattle.refusals.specs.declared.Refusal.{Refusal}
 use Rattle.machine.specs.declared.State.{State}
 use Rattle.machine.specs.declared.Stepped.{Stepped}
 use Rattle.scheduling.proofs.Outcomes.{Same, same-all}
-use Rattle.giving.specs.Giving.{given, HandsStep, Counted}
-use Rattle.giving.proofs.Given.{same-number}
+use Rattle.handing_tables.specs.Tables.{given, HandsStep, Counted}
+use Rattle.handing_tables.proofs.Given.{same-number}
 use Rattle.handing.specs.Handing.{Listed}
 use Rattle.grodvejas.specs.Calls.{Wrote, Fits, Provides, Reads, Steps, StepsTable, Tells, Analyses}
 

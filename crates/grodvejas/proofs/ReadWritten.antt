@@ -15,8 +15,8 @@ use Rattle.writing.specs.Text.{textOf}
 use Rattle.writing.specs.Writing.{writeOutcome}
 use Rattle.writing.proofs.Written.{same-bytes}
 use Rattle.writing.proofs.Writes.{same-outcome}
-use Rattle.giving.specs.Giving.{refusalIn, Counted}
-use Rattle.giving.proofs.Given.{same-number}
+use Rattle.handing_tables.specs.Tables.{refusalIn, Counted}
+use Rattle.handing_tables.proofs.Given.{same-number}
 use Rattle.grodvejas.specs.Calls.{Wrote, tableOf, Writes, Reads}
 
 -- ---- what is handed out is an equal table

@@ -19,7 +19,7 @@ use Rattle.scheduling.specs.Buffers.{Buffers}
 use Rattle.scheduling.specs.Asking.{whoOf}
 use Rattle.scheduling.specs.Analysing.{analysisOf}
 use Rattle.reporting.specs.Reporting.{reportFor, reportOutcome}
-use Rattle.giving.specs.Giving.{Counted, HandsReading, stepFor, HandsStep, unplaced}
+use Rattle.handing_tables.specs.Tables.{Counted, HandsReading, stepFor, HandsStep, unplaced}
 use Rattle.handing.specs.Handing.{numberIn, handed, instantOr0, HandsWho, Listed, HandsAnalysis}
 
 -- ---- the calls that write one result

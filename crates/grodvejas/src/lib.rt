@@ -1,14 +1,14 @@
 // The library's calls for programs in C: numbers, slices (a pointer and a length), and places to write to. Each answers 0, or the number of its
 // refusal; what it hands out is then left as it was, but for line and place, and but for a refused step, which hands out 0 for holder and runner.
 use entries::table_from;
-use giving::hand_reading;
-use giving::hand_step;
-use giving::step_table;
 use handing::answered::hand_analysis;
 use handing::answered::hand_who;
 use handing::outcomes::hand_count;
 use handing::outcomes::hand_counts;
 use handing::outcomes::hand_instant;
+use handing_tables::hand_reading;
+use handing_tables::hand_step;
+use handing_tables::step_table;
 ghost use Rattle.grodvejas.specs.Calls.{Adds, Cuts, Fits, Provides, Reads, Writes, Steps, StepsTable, Tells, Analyses, Reports};
 
 // Adds up two curves into a buffer, and hands out how many numbers were written.

@@ -16,7 +16,7 @@ use Rattle.answers.specs.declared.Short.the-variants.{First, Never}
 use Rattle.answers.specs.declared.ServerAnswer.{ServerAnswer}
 use Rattle.answers.specs.declared.TaskAnswer.{TaskAnswer}
 use Rattle.scheduling.specs.declared.Who.{Who}
-use Rattle.giving.specs.Giving.{given, Counted}
+use Rattle.handing_tables.specs.Tables.{given, Counted}
 
 -- ---- curve calls and the report
 

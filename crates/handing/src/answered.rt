@@ -3,7 +3,7 @@ use crate::listing::list_margins;
 use crate::listing::list_servers;
 use crate::listing::list_tasks;
 use answers::Analysis;
-use giving::hand_refusal;
+use handing_tables::hand_refusal;
 use scheduling::Who;
 ghost use Prim.Native.Nat.{_≤_};
 ghost use Rattle.handing.specs.Handing.{HandsWho, HandsAnalysis};

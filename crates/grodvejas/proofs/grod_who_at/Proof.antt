@@ -2,7 +2,7 @@
 use mathlib.Core.Path.{sym}
 use borrow.Author.Needs.{needs}
 use Rattle.scheduling.proofs.Calls.{by-number}
-use Rattle.giving.proofs.Given.{same-number}
+use Rattle.handing_tables.proofs.Given.{same-number}
 use Rattle.grodvejas.proofs.grod_who_at.Statement.{statement}
 use Rattle.grodvejas.proofs.grod_who_at.Tie as tie
 

@@ -4,7 +4,7 @@ use native.Mathlib.Omega.{arith}
 use lib.ListN.{length}
 use borrow.Author.Needs.{needs}
 use Rattle.table.proofs.Entries.{length-mapped}
-use Rattle.giving.proofs.Given.{given-old, given-new}
+use Rattle.handing_tables.proofs.Given.{given-old, given-new}
 use Rattle.handing.proofs.answered.hand_analysis.Statement.{statement}
 use Rattle.handing.proofs.answered.hand_analysis.Tie as tie
 

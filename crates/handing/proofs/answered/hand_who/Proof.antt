@@ -1,6 +1,6 @@
 -- `handing::answered::hand_who` meets its contract: where there is no refusal, the answer is handed out.
 use borrow.Author.Needs.{needs}
-use Rattle.giving.proofs.Given.{given-old, given-new}
+use Rattle.handing_tables.proofs.Given.{given-old, given-new}
 use Rattle.handing.proofs.answered.hand_who.Statement.{statement}
 use Rattle.handing.proofs.answered.hand_who.Tie as tie
 

@@ -1,9 +1,9 @@
--- `giving::hand_reading` meets its contract: where there is no refusal, what is read is handed out.
+-- `handing_tables::hand_reading` meets its contract: where there is no refusal, what is read is handed out.
 use mathlib.Core.Path.{_∙_}
 use borrow.Author.Needs.{needs}
-use Rattle.giving.proofs.Given.{given-old, given-new}
-use Rattle.giving.proofs.hand_reading.Statement.{statement}
-use Rattle.giving.proofs.hand_reading.Tie as tie
+use Rattle.handing_tables.proofs.Given.{given-old, given-new}
+use Rattle.handing_tables.proofs.hand_reading.Statement.{statement}
+use Rattle.handing_tables.proofs.hand_reading.Tie as tie
 
 refusal-in-requires : tie.Need-refusal-in-requires
 refusal-in-requires c κs = search needs

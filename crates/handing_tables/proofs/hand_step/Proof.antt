@@ -1,8 +1,8 @@
--- `giving::hand_step` meets its contract: the step of an accepted text's table is handed out, or the refusal.
+-- `handing_tables::hand_step` meets its contract: the step of an accepted text's table is handed out, or the refusal.
 use mathlib.Core.Path.{refl}
 use borrow.Author.Needs.{needs}
-use Rattle.giving.proofs.hand_step.Statement.{statement}
-use Rattle.giving.proofs.hand_step.Tie as tie
+use Rattle.handing_tables.proofs.hand_step.Statement.{statement}
+use Rattle.handing_tables.proofs.hand_step.Tie as tie
 
 enum-told : tie.Need-enum-told
 enum-told c = search needs

@@ -1,8 +1,8 @@
--- `giving::hand_no_step` meets its contract.
+-- `handing_tables::hand_no_step` meets its contract.
 use mathlib.Core.Path.{refl}
 use borrow.Author.Needs.{needs}
-use Rattle.giving.proofs.hand_no_step.Statement.{statement}
-use Rattle.giving.proofs.hand_no_step.Tie as tie
+use Rattle.handing_tables.proofs.hand_no_step.Statement.{statement}
+use Rattle.handing_tables.proofs.hand_no_step.Tie as tie
 
 hand-refusal-requires : tie.Need-hand-refusal-requires
 hand-refusal-requires c κs = search needs

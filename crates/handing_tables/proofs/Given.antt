@@ -9,7 +9,7 @@ use Rattle.machine.specs.Machine.{accepts, stepOf}
 use Rattle.machine.specs.declared.State.{State}
 use Rattle.machine.specs.declared.Stepped.{Stepped}
 use Rattle.machine.proofs.Grounds.{step-refused, step-accepted}
-use Rattle.giving.specs.Giving.{given, unplaced}
+use Rattle.handing_tables.specs.Tables.{given, unplaced}
 
 -- a refusal: what was there before
 pub given-old : {A : Type 0} (number : ℕ) (new old : A) → ¬ (number ≡ 0) → old ≡ given number new old

@@ -1,11 +1,11 @@
--- `giving::step_table` meets its contract: a step that is not refused is written back field by field; holder and runner always are.
+-- `handing_tables::step_table` meets its contract: a step that is not refused is written back field by field; holder and runner always are.
 use mathlib.Core.Path.{sym, ap, _∙_}
 use borrow.Author.Needs.{needs}
 use Rattle.machine.specs.declared.Stepped.{Stepped}
-use Rattle.giving.specs.Giving.{unplaced}
-use Rattle.giving.proofs.Given.{refused-stays, step-unplaced}
-use Rattle.giving.proofs.step_table.Statement.{statement}
-use Rattle.giving.proofs.step_table.Tie as tie
+use Rattle.handing_tables.specs.Tables.{unplaced}
+use Rattle.handing_tables.proofs.Given.{refused-stays, step-unplaced}
+use Rattle.handing_tables.proofs.step_table.Statement.{statement}
+use Rattle.handing_tables.proofs.step_table.Tie as tie
 
 step-requires : tie.Need-step-requires
 step-requires c κs = search needs

@@ -10,7 +10,7 @@ use table::Table;
 ghost use mathlib.Core.Path.{_≡_};
 ghost use Prim.Native.Nat.{_≤_};
 ghost use Rattle.machine.specs.Machine.{stepOf};
-ghost use Rattle.giving.specs.Giving.{refusalIn, HandsReading, stepFor, HandsStep, unplaced};
+ghost use Rattle.handing_tables.specs.Tables.{refusalIn, HandsReading, stepFor, HandsStep, unplaced};
 
 // Hands out line and place of a refusal, and answers its number.
 pub fn hand_refusal(refusal: Refusal, line: &mut u32, place: &mut u32) -> u32
