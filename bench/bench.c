@@ -2,7 +2,7 @@
  * be the same. Then each in turn is given the texts of a workload again and again for a slot of time; the fastest of its slots is printed.
  *
  * The six work buffers are 0 before the first call. The analysis leaves every number of them 0 after each call, and this clearing is part of its time. What
- * reading a text and clearing the buffers take of it, and what the call by tick takes, is measured beside it.
+ * reading a text and clearing the buffers take of it is measured beside it.
  *
  *     bench [NAME]: only the workloads whose names begin so */
 #include "simulator.h"
@@ -13,7 +13,7 @@
 #include <string.h>
 #include <time.h>
 
-enum { SEED = 2018, SLOTS = 10, PART_SLOTS = 3, SIDES = 3, ALL = 6 };
+enum { SEED = 2018, SLOTS = 10, PART_SLOTS = 3, SIDES = 3, ALL = 5 };
 static const double SLOT = 0.05; /* seconds of processor time */
 
 static struct text texts[TABLES_MOST];
@@ -28,15 +28,6 @@ static void analyse(const uint8_t *text, size_t n, struct answers *out)
         printf("refused %u %u %u\n", (unsigned)number, (unsigned)line, (unsigned)place);
         exit(1);
     }
-}
-
-/* Who holds tick 0 and who runs in it, from the curves: no cheaper for another tick. */
-static void ask_tick(const uint8_t *text, size_t n, struct answers *out)
-{
-    uint32_t line, place, holder, runner;
-    (void)out;
-    grod_who_at(text, n, 0, work[0], GROD_ROOM, work[1], GROD_ROOM, work[2], GROD_ROOM, work[3], GROD_ROOM, work[4], GROD_ROOM, work[5], GROD_ROOM, &line,
-                &place, &holder, &runner);
 }
 
 /* Reading alone, which the analysis does first, and handing out what was read. */
@@ -59,7 +50,7 @@ static void clear_only(const uint8_t *text, size_t n, struct answers *out)
 }
 
 typedef void (*side)(const uint8_t *text, size_t n, struct answers *out);
-static const side sides[ALL] = {analyse, simulate, simulate_bits, read_only, clear_only, ask_tick};
+static const side sides[ALL] = {analyse, simulate, simulate_bits, read_only, clear_only};
 
 /* Ends the run if the analysis and the simulators do not answer the same. Answers the span. */
 static uint32_t check(const struct text *text)
@@ -102,8 +93,8 @@ static double slot(side with, size_t tables)
 
 static void print_row(const struct workload *w, double ticks, const double *took)
 {
-    printf("| %-44s | %6zu | %6.0f | %8.1f | %7.1f | %8.1f | %8.1f | %9.1f | %5.1f | %9.1f | %5.1f |\n", w->name, w->tables, ticks, took[0], took[3],
-           took[4], took[5], took[1], took[1] / took[0], took[2], took[2] / took[0]);
+    printf("| %-44s | %6zu | %6.0f | %8.1f | %7.1f | %8.1f | %9.1f | %5.1f | %9.1f | %5.1f |\n", w->name, w->tables, ticks, took[0], took[3], took[4],
+           took[1], took[1] / took[0], took[2], took[2] / took[0]);
     fflush(stdout);
 }
 
@@ -129,9 +120,9 @@ int main(int count, char **words)
 {
     const char *only = count < 2 ? "" : words[1];
     printf("seed %d; times are microseconds for a table\n\n", SEED);
-    printf("| %-44s | %-6s | %-6s | %-8s | %-7s | %-8s | %-8s | %-9s | %-5s | %-9s | %-5s |\n", "workload", "tables", "ticks", "analysis", "reading",
-           "clearing", "one tick", "simulator", "ratio", "with bits", "ratio");
-    printf("|---|--:|--:|--:|--:|--:|--:|--:|--:|--:|--:|\n");
+    printf("| %-44s | %-6s | %-6s | %-8s | %-7s | %-8s | %-9s | %-5s | %-9s | %-5s |\n", "workload", "tables", "ticks", "analysis", "reading", "clearing",
+           "simulator", "ratio", "with bits", "ratio");
+    printf("|---|--:|--:|--:|--:|--:|--:|--:|--:|--:|\n");
     for (size_t i = 0; i < workloads_n; i++)
         if (strncmp(workloads[i].name, only, strlen(only)) == 0)
             measure(&workloads[i]);

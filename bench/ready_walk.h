@@ -1,11 +1,12 @@
 /* Which server and which task can run, found by walks that stop at the first. Part of simulator.c. */
 
-/* tasks with waiting work */
+/* tasks with waiting work, and one more if the server is periodic */
 static uint32_t wants[GROD_SERVERS];
 
 static void begin_ready(void)
 {
-    memset(wants, 0, sizeof wants);
+    for (uint32_t s = 0; s < m.servers; s++)
+        wants[s] = m.periodic[s];
 }
 
 /* A server's budget is full again. */
@@ -33,24 +34,18 @@ static void done(uint32_t s, uint32_t k)
     wants[s]--;
 }
 
-/* Down the servers to the first with budget and waiting work; a periodic one with budget and no work loses one, and the walk goes on. */
-static uint32_t go_down(void)
+static uint32_t first_server(void)
 {
-    for (uint32_t s = 0; s < m.servers; s++) {
-        if (m.budget[s] == 0)
-            continue;
-        if (wants[s] != 0)
+    for (uint32_t s = 0; s < m.servers; s++)
+        if (m.budget[s] != 0 && wants[s] != 0)
             return s;
-        m.budget[s] -= m.periodic[s];
-    }
     return NOBODY;
 }
 
-/* The first task with waiting work of a server that has one. */
 static uint32_t first_task(uint32_t s)
 {
-    uint32_t k = m.first[s];
-    while (m.waiting[k] == 0)
-        k++;
-    return k;
+    for (uint32_t k = m.first[s]; k < m.first[s + 1]; k++)
+        if (m.waiting[k] != 0)
+            return k;
+    return NOBODY;
 }

@@ -1,8 +1,8 @@
-/* A simulator of servers and tasks, one tick at a time, by the rules of the scope document and the requests. It trusts its text, allocates nothing, and does in a tick only
+/* A simulator of servers and tasks, one tick at a time, by the rules of the scope document. It trusts its text, allocates nothing, and does in a tick only
  * what the tick needs: it looks at refills only where a server has one, and at releases only where a task has one.
  *
  * It is compiled twice. `simulate` walks down the servers and then down the tasks of one, and stops at the first that can run; `simulate_bits` keeps those
- * that can run, and those whose budget runs down idle, as sets of bits. */
+ * that can run as sets of bits. */
 #include "simulator.h"
 
 #include <string.h>
@@ -24,8 +24,8 @@ static struct machine {
     uint8_t periodic[GROD_SERVERS];
     uint32_t refill[GROD_SERVERS];    /* the next refill */
     uint32_t next_refill;             /* the first of them */
-    uint32_t taken[GROD_SERVERS];     /* ticks taken so far */
-    uint32_t above[GROD_SERVERS];     /* ticks taken by the servers above when the period began */
+    uint32_t held[GROD_SERVERS];      /* ticks held so far */
+    uint32_t above[GROD_SERVERS];     /* ticks held by the servers above when the period began */
     uint32_t full[GROD_SERVERS], short_period[GROD_SERVERS];
     uint32_t first[GROD_SERVERS + 1]; /* the tasks of server s are first[s] to first[s + 1] - 1 */
 
@@ -164,7 +164,7 @@ static void begin(void)
         m.refill[s] = m.period[s];
         if (m.period[s] < m.next_refill)
             m.next_refill = m.period[s];
-        m.taken[s] = 0;
+        m.held[s] = 0;
         m.above[s] = 0;
         m.full[s] = 0;
         m.short_period[s] = GROD_NEVER;
@@ -179,7 +179,7 @@ static void begin(void)
     }
 }
 
-/* Ends a period of a server, while the servers above have taken so many ticks in all, and begins the next. */
+/* Ends a period of a server, while the servers above have held so many ticks in all, and begins the next. */
 static void turn(uint32_t s, uint32_t above)
 {
     if (above - m.above[s] > m.period[s] - m.capacity[s] && m.short_period[s] == GROD_NEVER)
@@ -200,7 +200,7 @@ static void refill(uint32_t t)
             turn(s, above);
         if (m.refill[s] < m.next_refill)
             m.next_refill = m.refill[s];
-        above += m.taken[s];
+        above += m.held[s];
     }
 }
 
@@ -242,11 +242,13 @@ static void tick(uint32_t t)
         refill(t);
     if (m.due[t] != 0)
         release(t);
-    uint32_t s = go_down();
+    uint32_t s = first_server();
     if (s == NOBODY)
         return;
-    m.taken[s]++;
-    run_in(s, first_task(s), t);
+    uint32_t k = first_task(s);
+    m.held[s]++;
+    if (k != NOBODY)
+        run_in(s, k, t);
     if (--m.budget[s] == 0)
         spent(s);
 }

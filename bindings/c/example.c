@@ -100,6 +100,8 @@ static void say_who(uint32_t tick, uint32_t holder, uint32_t runner)
 {
     if (holder == 0)
         printf("tick %u: nobody holds it\n", (unsigned)tick);
+    else if (runner == 0)
+        printf("tick %u: server %u holds it idle\n", (unsigned)tick, (unsigned)holder);
     else
         printf("tick %u: server %u holds it, task %u runs\n", (unsigned)tick, (unsigned)holder, (unsigned)runner);
 }

@@ -112,9 +112,7 @@ uint32_t grod_write(uint32_t span, size_t servers_n, size_t tasks_n, const struc
                     const struct grod_task tasks[GROD_TASKS], uint8_t *out, size_t out_n, size_t *count);
 
 /* Goes one tick on with the machine of a text's table. The state is the tick, each server's budget and each task's waiting work, all 0 before tick 0;
- * it is handed in and, one tick later, handed out. `*holder` is the server that holds the tick, the first with budget and waiting work, which takes the
- * tick and loses one of budget; `*runner` is the task that runs in it; 0 for none. A periodic server above it (every one where nobody holds the tick) that
- * has budget and no waiting work loses one of budget too; a server below it loses nothing.
+ * it is handed in and, one tick later, handed out. `*holder` is the server that holds the tick, `*runner` the task that runs in it, 0 for none.
  * Entries beyond the table's counts are not tested and pass through. A refused step leaves the state as it was, and `*holder` and `*runner` are 0.
  * Refuses 1 to 8 and 14 to 18, then 13. */
 uint32_t grod_step(const uint8_t *text, size_t text_n, uint32_t *tick, uint32_t budgets[GROD_SERVERS], uint32_t waiting[GROD_TASKS], uint32_t *line,
@@ -128,14 +126,14 @@ uint32_t grod_step_table(uint32_t span, size_t servers_n, size_t tasks_n, const 
 /* Who holds a tick of the span and who runs in it, 0 for none, from the curves. Six work buffers of at least GROD_ROOM numbers are lent; every number of
  * them is 0 after an accepted call. `*holder` and `*runner` stay as they were after a refused one. Refuses 9, then 1 to 8 and 14 to 18, then 13. */
 uint32_t grod_who_at(const uint8_t *text, size_t text_n, uint32_t tick, uint32_t *free, size_t free_n, uint32_t *sum, size_t sum_n, uint32_t *part,
-                     size_t part_n, uint32_t *spent, size_t spent_n, uint32_t *running, size_t running_n, uint32_t *spare, size_t spare_n, uint32_t *line,
+                     size_t part_n, uint32_t *held, size_t held_n, uint32_t *running, size_t running_n, uint32_t *spare, size_t spare_n, uint32_t *line,
                      uint32_t *place, uint32_t *holder, uint32_t *runner);
 
 /* The answers of all servers and tasks, in their order. `margin` has that of each task: deadline minus response, below 0 when late, and 0 where the outcome
  * is not GROD_WORST. Only the first `*servers_n` entries of `servers` and the first `*tasks_n` of `tasks` and `margin` are written; the entries behind them
  * stay as they were. Work buffers as for grod_who_at. Refuses 9, then 1 to 8 and 14 to 18. */
 uint32_t grod_analyse(const uint8_t *text, size_t text_n, uint32_t *free, size_t free_n, uint32_t *sum, size_t sum_n, uint32_t *part, size_t part_n,
-                      uint32_t *spent, size_t spent_n, uint32_t *running, size_t running_n, uint32_t *spare, size_t spare_n, uint32_t *line, uint32_t *place,
+                      uint32_t *held, size_t held_n, uint32_t *running, size_t running_n, uint32_t *spare, size_t spare_n, uint32_t *line, uint32_t *place,
                       uint32_t *span, size_t *servers_n, size_t *tasks_n, struct grod_server_answer servers[GROD_SERVERS],
                       struct grod_task_answer tasks[GROD_TASKS], int32_t margin[GROD_TASKS]);
 

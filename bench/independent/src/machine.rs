@@ -10,7 +10,7 @@ pub struct State {
     pub waiting: Vec<u32>,
 }
 
-/// Who has a tick: the server that holds it, which is the one that takes it, and the task that runs in it, numbered from 1, 0 for none.
+/// Who has a tick: the server that holds it and the task that runs in it, numbered from 1, 0 for none.
 #[derive(Clone, Copy, Debug, PartialEq, Eq)]
 pub struct Tick {
     pub holder: usize,
@@ -23,11 +23,11 @@ impl State {
         State { tick: 0, budgets: vec![0; table.servers.len()], waiting: vec![0; table.tasks.len()] }
     }
 
-    /// One tick: refill, release, take, run.
+    /// One tick: refill, release, hold, run.
     pub fn step(&mut self, table: &Table) -> Tick {
         self.refill(table);
         self.release(table);
-        let holder = self.take(table);
+        let holder = self.hold(table);
         let runner = self.run(table, holder);
         self.tick += 1;
         Tick { holder, runner }
@@ -53,16 +53,12 @@ impl State {
         }
     }
 
-    /// (3) Down the servers from the top: a periodic one with budget and no waiting work loses one and the walk goes on, the first with budget and
-    /// waiting work takes the tick and loses one, and those below it lose nothing.
-    fn take(&mut self, table: &Table) -> usize {
+    /// (3) The first server that has budget left, and is periodic or has waiting work, holds the tick and loses one of budget.
+    fn hold(&mut self, table: &Table) -> usize {
         for (index, server) in table.servers.iter().enumerate() {
-            let works = self.first_waiting(table, index + 1) != 0;
-            if self.budgets[index] == 0 || !(works || server.kind == Kind::Periodic) {
-                continue;
-            }
-            self.budgets[index] -= 1;
-            if works {
+            let wants = server.kind == Kind::Periodic || self.first_waiting(table, index + 1) != 0;
+            if self.budgets[index] > 0 && wants {
+                self.budgets[index] -= 1;
                 return index + 1;
             }
         }

@@ -46,7 +46,7 @@ fn server_answer(table: &Table, server: &Server, number: usize, run: &[Tick]) ->
     ServerAnswer { full, first_short: (0..full).find(is_short) }
 }
 
-/// How many ticks of a period no higher server takes.
+/// How many ticks of a period no higher server holds.
 fn free_ticks(server: &Server, number: usize, period: u32, run: &[Tick]) -> u32 {
     let first = (period * server.period) as usize;
     let ticks = &run[first..first + server.period as usize];

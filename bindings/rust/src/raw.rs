@@ -45,12 +45,12 @@ calls! {
     );
     fn grod_who_at(
         text: *const u8, text_n: usize, tick: u32, free: *mut u32, free_n: usize, sum: *mut u32, sum_n: usize, part: *mut u32, part_n: usize,
-        spent: *mut u32, spent_n: usize, running: *mut u32, running_n: usize, spare: *mut u32, spare_n: usize, line: *mut u32, place: *mut u32,
+        held: *mut u32, held_n: usize, running: *mut u32, running_n: usize, spare: *mut u32, spare_n: usize, line: *mut u32, place: *mut u32,
         holder: *mut u32, runner: *mut u32,
     );
     fn grod_analyse(
         text: *const u8, text_n: usize, free: *mut u32, free_n: usize, sum: *mut u32, sum_n: usize, part: *mut u32, part_n: usize,
-        spent: *mut u32, spent_n: usize, running: *mut u32, running_n: usize, spare: *mut u32, spare_n: usize, line: *mut u32, place: *mut u32,
+        held: *mut u32, held_n: usize, running: *mut u32, running_n: usize, spare: *mut u32, spare_n: usize, line: *mut u32, place: *mut u32,
         span: *mut u32, servers_n: *mut usize, tasks_n: *mut usize, servers: *mut [u32; 2], tasks: *mut [u32; 3], margin: *mut i32,
     );
     fn grod_report(text: *const u8, text_n: usize, out: *mut u8, out_n: usize, count: *mut usize);

@@ -16,7 +16,7 @@ impl Default for State {
     }
 }
 
-/// The server that holds a tick, which is the first with budget and waiting work, and the task that runs in it, by number from 1, or 0 for none.
+/// The server that holds a tick and the task that runs in it, by number from 1, or 0 for none.
 #[derive(Clone, Copy, Debug, Default, PartialEq, Eq)]
 pub struct Who {
     pub holder: u32,
@@ -68,7 +68,7 @@ impl Default for Room {
 /// Who holds a tick of the span and who runs in it, from the curves. Six work buffers of at least [`ROOM`] numbers are lent; every number of them is 0
 /// after an accepted call. Refuses 9, then 1 to 8 and 14 to 18, then 13.
 pub fn who_at(text: &[u8], tick: u32, work: [&mut [u32]; 6]) -> Result<Who, Refusal> {
-    let [free, sum, part, spent, running, spare] = work;
+    let [free, sum, part, held, running, spare] = work;
     let (mut line, mut place) = (0, 0);
     let mut who = Who::default();
     // SAFETY: each pointer and length is of one slice; what is written is borrowed for this call alone.
@@ -83,8 +83,8 @@ pub fn who_at(text: &[u8], tick: u32, work: [&mut [u32]; 6]) -> Result<Who, Refu
             sum.len(),
             part.as_mut_ptr(),
             part.len(),
-            spent.as_mut_ptr(),
-            spent.len(),
+            held.as_mut_ptr(),
+            held.len(),
             running.as_mut_ptr(),
             running.len(),
             spare.as_mut_ptr(),
@@ -163,7 +163,7 @@ impl Handed {
 
 /// The answers of all servers and tasks. Work buffers as for [`who_at`]. Refuses 9, then 1 to 8 and 14 to 18.
 pub fn analyse(text: &[u8], work: [&mut [u32]; 6]) -> Result<Answers, Refusal> {
-    let [free, sum, part, spent, running, spare] = work;
+    let [free, sum, part, held, running, spare] = work;
     let (mut line, mut place) = (0, 0);
     let mut handed = Handed::new();
     // SAFETY: each pointer and length is of one slice; the arrays have 16 and 64 entries; what is written is borrowed for this call alone.
@@ -177,8 +177,8 @@ pub fn analyse(text: &[u8], work: [&mut [u32]; 6]) -> Result<Answers, Refusal> {
             sum.len(),
             part.as_mut_ptr(),
             part.len(),
-            spent.as_mut_ptr(),
-            spent.len(),
+            held.as_mut_ptr(),
+            held.len(),
             running.as_mut_ptr(),
             running.len(),
             spare.as_mut_ptr(),

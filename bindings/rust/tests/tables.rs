@@ -125,15 +125,15 @@ fn other_refusals_of_a_text_have_no_place() {
 fn each_tick_of_table_a() {
     let mut room = Room::new();
     let mut state = State::default();
-    let mut taken = 0;
+    let mut held = 0;
     for tick in 0..40 {
         let who = step(A, &mut state).unwrap();
         assert_eq!(state.tick, tick + 1);
         assert_eq!(who_at(A, tick, room.lend()), Ok(who), "tick {tick}");
-        taken += u32::from(who != Who::default());
+        held += u32::from(who != Who::default());
     }
     // ten jobs of one tick, eight of one, five of two
-    assert_eq!(taken, 10 + 8 + 10);
+    assert_eq!(held, 10 + 8 + 10);
 }
 
 #[test]

@@ -9,8 +9,13 @@ use lib.Dec.{ltb}
 use borrow.Author.Tests.{lt-ltb}
 use Rattle.basics.specs.Choice.{pick}
 use Rattle.table.specs.Places.{first_of}
-use Rattle.table.proofs.Places.{same_first}
 use Rattle.noting.specs.Noted.{Noted}
+
+-- tests that agree find the same place
+same_first : (p q : ℕ → Bool) (k i : ℕ) → ((u : ℕ) → u < i + k → p u ≡ q u) → first_of p k i ≡ first_of q k i
+unfolding first_of
+same_first p q zero i e = refl
+same_first p q (suc k) i e = rw (e i (omega arith), same_first p q k (suc i) (λ u h. e u (omega arith)))
 
 -- what is marked passes the test
 pub marked_first : (f : ℕ → Bool) (n : ℕ) (l : List Bool) → Noted f false (λ i. ltb i n) l → first_of (λ i. get_or l i false) n 0 ≡ first_of f n 0

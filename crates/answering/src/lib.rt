@@ -1,19 +1,26 @@
-// The answers of a table's servers and tasks, and which task runs in one tick of it, worked out on six work buffers in one walk down the servers.
+// The answers of a table's servers and tasks, and who holds a tick of it, worked out on six work buffers in one walk down the servers.
 ghost use Rattle.std.specs.Prelude.{◌≡◌, false, ◌≤◌, length, get_or};
 ghost use Rattle.table.specs.Places.{Obeyed, first_of};
 ghost use Rattle.answering.specs.Noted.{NoNotes, AllNoted};
 
 use answers::{Response, ServerAnswer, Short, TaskAnswer};
 use buffers::put;
+use judging::covering::covers;
 use judging::periods::answer_server;
 use noting::{TaskNotes, answer_tasks};
-use serving::{give_down, spend_server};
+use serving::hold_server;
 use table::Table;
 
-// Each server's answer, and what is noted of the tasks.
+// What is noted of the servers: each one's answer, and whether it holds the tick asked for.
+#[derive(Drop)]
+pub struct ServerNotes {
+    pub answers: [ServerAnswer; 16],
+    pub holds: [bool; 64],
+}
+
 #[derive(Drop)]
 pub struct Notes {
-    pub servers: [ServerAnswer; 16],
+    pub servers: ServerNotes,
     pub tasks: TaskNotes,
 }
 
@@ -28,7 +35,10 @@ pub fn no_notes() -> Notes
     let no_task = TaskAnswer {
         response: Response::None,
     };
-    let servers = [no_server; 16];
+    let servers = ServerNotes {
+        answers: [no_server; 16],
+        holds: [false; 64],
+    };
     let tasks = TaskNotes {
         answers: [no_task; 64],
         runs: [false; 64],
@@ -43,15 +53,15 @@ pub fn answer_all(
     free: &mut [u32],
     sum: &mut [u32],
     part: &mut [u32],
-    spent: &mut [u32],
+    held: &mut [u32],
     running: &mut [u32],
     spare: &mut [u32],
 ) -> Notes
-    requires { Obeyed table × (16000 ≤ length free.old) × (16000 ≤ length sum.old) × (16000 ≤ length part.old) × (16000 ≤ length spent.old)
+    requires { Obeyed table × (16000 ≤ length free.old) × (16000 ≤ length sum.old) × (16000 ≤ length part.old) × (16000 ≤ length held.old)
         × (16000 ≤ length running.old) × (16000 ≤ length spare.old) }
     ensures { AllNoted table tick result
         × (length free.new ≡ length free.old) × (length sum.new ≡ length sum.old)
-        × (length part.new ≡ length part.old) × (length spent.new ≡ length spent.old)
+        × (length part.new ≡ length part.old) × (length held.new ≡ length held.old)
         × (length running.new ≡ length running.old) × (length spare.new ≡ length spare.old) }
 {
     let none = no_notes();
@@ -63,23 +73,14 @@ pub fn answer_all(
     let mut i: usize = 0;
     while i < count {
         let server = table.servers[i];
-        servers[i] = answer_server(server, span, &free[..n]);
-        let counts = spend_server(table, i, n, free, sum, part, spent, spare);
+        let answer = answer_server(server, span, &free[..n]);
+        servers.answers[i] = answer;
+        let counts = hold_server(table, i, n, free, sum, part, held, spare);
+        let k = counts.held;
+        servers.holds[i] = covers(&held[..k], tick);
         let number = (i as u32) + 1;
-        let shared = answer_tasks(
-            table,
-            tick,
-            number,
-            counts.spent,
-            spent,
-            part,
-            running,
-            spare,
-            tasks,
-        );
-        tasks = shared.notes;
-        let left = shared.left;
-        n = give_down(counts.left, free, &spent[..left], spare);
+        tasks = answer_tasks(table, tick, number, k, held, part, running, spare, tasks);
+        n = counts.left;
         i += 1;
     }
     Notes { servers, tasks }

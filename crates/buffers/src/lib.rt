@@ -46,18 +46,18 @@ pub fn clear_all(
     free: &mut [u32],
     sum: &mut [u32],
     part: &mut [u32],
-    spent: &mut [u32],
+    held: &mut [u32],
     running: &mut [u32],
     spare: &mut [u32],
 )
     ensures { (free.new ≡ replicate (length free.old) 0) × (sum.new ≡ replicate (length sum.old) 0)
-        × (part.new ≡ replicate (length part.old) 0) × (spent.new ≡ replicate (length spent.old) 0)
+        × (part.new ≡ replicate (length part.old) 0) × (held.new ≡ replicate (length held.old) 0)
         × (running.new ≡ replicate (length running.old) 0) × (spare.new ≡ replicate (length spare.old) 0) }
 {
     clear(free);
     clear(sum);
     clear(part);
-    clear(spent);
+    clear(held);
     clear(running);
     clear(spare);
 }

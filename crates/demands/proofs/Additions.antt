@@ -64,7 +64,7 @@ module _ (H : ℕ) (a b out : List ℕ) (z : 0 < H) (h : H ≤ 16000) (p : Plain
   pub sum_room : length (below H (add_up a b)) ≤ 16000
   sum_room = plain_room (below H (add_up a b)) sum_cut
 
-  pub sum_short : length (add_up a b) ≤ length out
+  sum_short : length (add_up a b) ≤ length out
   sum_short = omega (arith, sum_room, cut_length H 0 (add_up a b) (plain_apart 0 (add_up a b) sum_plain) starts)
 
   -- so it can be written

@@ -145,7 +145,7 @@ pub extern "C" fn grod_who_at(
     free: &mut [u32],
     sum: &mut [u32],
     part: &mut [u32],
-    spent: &mut [u32],
+    held: &mut [u32],
     running: &mut [u32],
     spare: &mut [u32],
     line: &mut u32,
@@ -153,12 +153,12 @@ pub extern "C" fn grod_who_at(
     holder: &mut u32,
     runner: &mut u32,
 ) -> u32
-    ensures { Tells text.now tick free.old sum.old part.old spent.old running.old
+    ensures { Tells text.now tick free.old sum.old part.old held.old running.old
         spare.old holder.old runner.old (record { number = result; line = line.new; place = place.new })
-        holder.new runner.new free.new sum.new part.new spent.new running.new
+        holder.new runner.new free.new sum.new part.new held.new running.new
         spare.new }
 {
-    let who = scheduling::who_at(text, tick, free, sum, part, spent, running, spare);
+    let who = scheduling::who_at(text, tick, free, sum, part, held, running, spare);
     hand_who(who, line, place, holder, runner)
 }
 
@@ -169,7 +169,7 @@ pub extern "C" fn grod_analyse(
     free: &mut [u32],
     sum: &mut [u32],
     part: &mut [u32],
-    spent: &mut [u32],
+    held: &mut [u32],
     running: &mut [u32],
     spare: &mut [u32],
     line: &mut u32,
@@ -181,15 +181,15 @@ pub extern "C" fn grod_analyse(
     tasks: &mut [u32; 192],
     margin: &mut [i32; 64],
 ) -> u32
-    ensures { Analyses text.now free.old sum.old part.old spent.old running.old
+    ensures { Analyses text.now free.old sum.old part.old held.old running.old
         spare.old (record { span = span.entry.now; servers = servers_n.old; tasks = tasks_n.old })
         (record { servers = servers.entry.now; tasks = tasks.old; margin = margin.old })
         (record { number = result; line = line.new; place = place.new })
         (record { span = span.exit.now; servers = servers_n.new; tasks = tasks_n.new })
         (record { servers = servers.exit.now; tasks = tasks.new; margin = margin.new }) free.new
-        sum.new part.new spent.new running.new spare.new }
+        sum.new part.new held.new running.new spare.new }
 {
-    let analysis = scheduling::analyse(text, free, sum, part, spent, running, spare);
+    let analysis = scheduling::analyse(text, free, sum, part, held, running, spare);
     hand_analysis(
         analysis, line, place, span, servers_n, tasks_n, servers, tasks, margin,
     )

@@ -1,9 +1,8 @@
--- Entries made anew one beside the other, an entry that is one less, and each of some entries. Assumes nothing.
+-- The first place that passes a test, entries made anew one beside the other, and an entry that is one less. Assumes nothing.
 use Prim.Native.Nat.{ℕ, zero, suc, ◌+◌, ◌-◌, ◌≤◌, ◌<◌}
 use mathlib.Core.Path.{◌≡◌, refl, sym, ap, ◌∙◌}
 use mathlib.Core.List.{List, [], ◌∷◌}
 use mathlib.Core.Logic.{◌≢◌}
-use mathlib.Core.Bool.{Bool}
 use native.Mathlib.Nat.{le_of_suc-le-suc, not-suc-le-zero}
 use native.Mathlib.Numerals.{add-one}
 use native.Mathlib.Omega.{arith}
@@ -13,7 +12,7 @@ use lib.Seq.{get_or-set_same, get_or-set_other, length-take-le}
 use lib.Dec.{eqb}
 use borrow.Author.Tests.{eq-eqb, ne_eqb}
 use Rattle.basics.specs.Choice.{pick}
-use Rattle.machine.specs.Machine.{along, one_less, each_less}
+use Rattle.machine.specs.Machine.{along, one_less}
 use Rattle.machine.specs.Parts.{entry_of}
 
 -- ---- entries made anew
@@ -81,11 +80,6 @@ pub entry_is : (l : List ℕ) (n : ℕ) → n ≢ 0 → entry_of l n ≡ get_or 
 entry_is l zero h = absurd (h refl)
 entry_is l (suc i) h = let e : suc i - 1 ≡ i = omega arith in rw e
 
--- an entry that is not the number's does not change
-pub less_other : (l : List ℕ) (n i : ℕ) → ¬ (n ≡ suc i) → get_or (one_less l n) i 0 ≡ get_or l i 0
-less_other l zero i h = refl
-less_other l (suc m) i h = get_or-set_other l m i (get_or l m 0 - 1) 0 (λ e. h (ap suc (sym e)))
-
 -- the number's entry is one less, and no other changes
 pub less_at : (l : List ℕ) (n i : ℕ) → i < length l → get_or (one_less l n) i 0 ≡ get_or l i 0 - pick (eqb n (suc i)) 1 0
 less_at l zero i h = rw (ne_eqb 0 (suc i) (λ e. omega arith)) (omega arith)
@@ -94,38 +88,3 @@ less_at l (suc m) i h = go (ℕ_discrete m i)
     go : Dec (m ≡ i) → get_or (one_less l (suc m)) i 0 ≡ get_or l i 0 - pick (eqb (suc m) (suc i)) 1 0
     go (yes e) = rw (e, eq-eqb (suc i) (suc i) refl) (get_or-set_same l i (get_or l i 0 - 1) 0 h)
     go (no k) = rw (ne_eqb (suc m) (suc i) (λ e. k (omega arith))) (get_or-set_other l m i (get_or l m 0 - 1) 0 (λ e. k (sym e)) ∙ omega arith)
-
--- ---- each of some places one less
-
-module _ (p : ℕ → Bool) (l : List ℕ) where
-  pub each_length : (n : ℕ) → length (each_less p n l) ≡ length l
-  unfolding each_less
-  each_length zero = refl
-  each_length (suc m) = length-set (each_less p m l) m (get_or l m 0 - pick (p m) 1 0) ∙ each_length m
-
-  -- a place that is not looked at does not change
-  each_other : (m i : ℕ) → ¬ (m ≡ i) → get_or (each_less p (suc m) l) i 0 ≡ get_or (each_less p m l) i 0
-  unfolding each_less
-  each_other m i h = get_or-set_other (each_less p m l) m i (get_or l m 0 - pick (p m) 1 0) 0 (λ e. h (sym e))
-
-  -- nor do the places from n on
-  pub each_beyond : (n i : ℕ) → n ≤ i → get_or (each_less p n l) i 0 ≡ get_or l i 0
-  unfolding each_less
-  each_beyond zero i h = refl
-  each_beyond (suc m) i h = each_other m i (λ e. omega arith) ∙ each_beyond m i (omega arith)
-
-  -- of those below n, each that passes is one less
-  pub each_at : (n i : ℕ) → i < n → i < length l → get_or (each_less p n l) i 0 ≡ get_or l i 0 - pick (p i) 1 0
-  unfolding each_less
-  each_at zero i h k = absurd (omega arith)
-  each_at (suc m) i h k = go (each_at m i) (ℕ_discrete m i)
-    where
-      go : (i < m → i < length l → get_or (each_less p m l) i 0 ≡ get_or l i 0 - pick (p i) 1 0) → Dec (m ≡ i)
-          → get_or (each_less p (suc m) l) i 0 ≡ get_or l i 0 - pick (p i) 1 0
-      go ih (yes e) = rw e (get_or-set_same (each_less p i l) i (get_or l i 0 - pick (p i) 1 0) 0 (omega (arith, each_length i)))
-      go ih (no e) = each_other m i e ∙ ih (omega arith) k
-
-  -- a walk that has looked at the first i places stores one more
-  pub each_stores : (now : List ℕ) (i b : ℕ) → now ≡ each_less p i l → b ≡ get_or now i 0 - pick (p i) 1 0 → set now i b ≡ each_less p (i + 1) l
-  unfolding each_less
-  each_stores now i b here e = rw (add-one i, e, here, each_beyond i i (omega arith))

@@ -2,31 +2,35 @@
 use Prim.Native.Nat.{ℕ, zero, suc, ◌+◌, ◌-◌, ◌%◌, ◌≤◌, ◌<◌}
 use mathlib.Core.Path.{◌≡◌, refl, sym, ap, ◌∙◌}
 use mathlib.Core.List.{List}
-use mathlib.Core.Bool.{Bool, true, false, ◌&&◌, ◌||◌, true≢false}
+use mathlib.Core.Bool.{Bool, true, false, ◌||◌}
 use native.Mathlib.Omega.{arith}
 use lib.ListN.{length, get_or, take}
-use lib.Seq.{get_or-take, length-take-le}
+use lib.Seq.{get_or-take, length-take-le, get_or-set_other}
 use lib.Dec.{ltb, eqb}
-use borrow.Author.Tests.{lt-ltb, le-ltb, ltb-true, ltb-false, eq-eqb, ne_eqb, eqb-true}
+use borrow.Author.Tests.{ltb-true, eqb-true}
 use Rattle.basics.specs.Choice.{pick}
 use Rattle.basics.proofs.Tests.{and_left, and_right}
 use Rattle.table.specs.Rules.{no_server, no_task, servers_of, tasks_of}
 use Rattle.table.specs.declared.Kind.{Kind}
-use Rattle.table.specs.declared.Kind.TheVariants.{Deferrable, Periodic}
+use Rattle.table.specs.declared.Kind.TheVariants.{Deferrable}
 use Rattle.table.specs.declared.Server.{Server}
 use Rattle.table.specs.declared.Table.{Table}
 use Rattle.machine.specs.declared.State.{State}
 use Rattle.table.specs.Places.{server_at, task_at, Obeyed}
-use Rattle.machine.specs.Machine.{along, refilled, gained, waits, first_task, may_take, qualifies, holder_of, is_periodic, idles, goes_past, runs_down, loses}
-use Rattle.machine.specs.Machine.{runner_of, ready, holder, runner, next}
+use Rattle.machine.specs.Machine.{along, refilled, gained, waits, first_task, is_periodic, qualifies, holder_of, runner_of, one_less, ready, holder, runner, next}
 use Rattle.table.specs.Releases.{gains}
-use Rattle.table.proofs.Places.{First, first_is, first_not}
-use Rattle.machine.proofs.Beside.{along_length, along_at, along_beyond, less_length, less_other, less_at, each_length, each_at, each_beyond}
+use Rattle.table.proofs.Places.{First, first_is}
+use Rattle.machine.proofs.Beside.{along_length, along_at, along_beyond, less_length, less_at}
 
 -- a state that has an entry for each server and task of the table
 pub record Full (table : Table) (s : State) : Type 0 where
   pub budgets : table.servers_n ≤ length s.budgets
   pub waiting : table.tasks_n ≤ length s.waiting
+
+-- an entry that is not the number's does not change
+less_other : (l : List ℕ) (n i : ℕ) → ¬ (n ≡ suc i) → get_or (one_less l n) i 0 ≡ get_or l i 0
+less_other l zero i h = refl
+less_other l (suc m) i h = get_or-set_other l m i (get_or l m 0 - 1) 0 (λ e. h (ap suc (sym e)))
 
 -- a refill keeps a budget at most C
 pub refilled_most : (t : ℕ) (server : Server) (budget : ℕ) → budget ≤ server.capacity → refilled t server budget ≤ server.capacity
@@ -49,7 +53,7 @@ module _ {A : Type 0} (f : A → ℕ → ℕ) (xs : List A) (l : List ℕ) (n i 
 -- ---- who holds the tick, and who runs in it, once refills and releases are done
 
 module _ (table : Table) (s : State) where
-  -- the holder is a server, and has budget and waiting work
+  -- the holder is a server, and has budget; a deferrable one has a runner
   holder_first : (i : ℕ) → holder_of table s ≡ suc i → First (qualifies table s) table.servers_n 0 i
   holder_first i e = first_is (qualifies table s) table.servers_n 0 i e
 
@@ -59,9 +63,14 @@ module _ (table : Table) (s : State) where
   pub holder_budget : (i : ℕ) → holder_of table s ≡ suc i → 0 < get_or s.budgets i 0
   holder_budget i e = ltb-true 0 (get_or s.budgets i 0) (and_left (ltb 0 (get_or s.budgets i 0)) _ (holder_first i e).passes)
 
-  -- so there is a runner
-  pub holder_runs : (i : ℕ) → holder_of table s ≡ suc i → 0 < runner_of table s (holder_of table s)
-  holder_runs i e = rw e (ltb-true 0 (first_task table s (suc i)) (and_right (ltb 0 (get_or s.budgets i 0)) _ (holder_first i e).passes))
+  holder_kind : (i : ℕ) → holder_of table s ≡ suc i → (is_periodic (server_at table i).kind || ltb 0 (first_task table s (suc i))) ≡ true
+  holder_kind i e = and_right (ltb 0 (get_or s.budgets i 0)) _ (holder_first i e).passes
+
+  pub deferrable_runs : (i : ℕ) → holder_of table s ≡ suc i → (server_at table i).kind ≡ Deferrable → 0 < runner_of table s (holder_of table s)
+  deferrable_runs i e k =
+      let first = first_task table s (suc i) in
+      let has : ltb 0 first ≡ true = ap (λ (kind : Kind). is_periodic kind || ltb 0 first) (sym k) ∙ holder_kind i e in
+      rw e (ltb-true 0 first has)
 
   -- the runner is a task of the holder, and has waiting work
   runner_first : (n j : ℕ) → runner_of table s n ≡ suc j → First (waits table s n) table.tasks_n 0 j
@@ -76,71 +85,6 @@ module _ (table : Table) (s : State) where
 
   pub runner_work : (n j : ℕ) → runner_of table s n ≡ suc j → 0 < get_or s.waiting j 0
   runner_work n j e = ltb-true 0 (get_or s.waiting j 0) (and_right (eqb (task_at table j).server n) _ (runner_first n j e).passes)
-
--- ---- who loses one of budget
-
--- budget, but not both budget and waiting work
-no_work : (budget first : ℕ) → may_take budget first ≡ false → 0 < budget → first ≡ 0
-no_work budget first e h = go (ltb 0 first) refl
-  where
-    go : (b : Bool) → ltb 0 first ≡ b → first ≡ 0
-    go true q = absurd (true≢false (sym (rw (lt-ltb 0 budget h, q)) ∙ e))
-    go false q = omega (arith, ltb-false 0 first q)
-
-module _ (table : Table) (s : State) (i : ℕ) where
-  -- the walk does not go past the server that takes the tick, nor past one below it
-  pub not_past : (holder m : ℕ) → holder ≡ suc m → m ≤ i → goes_past holder i ≡ false
-  not_past holder m e h = rw (e, le-ltb i m h)
-
-  -- "the first server with budget and waiting work takes the tick": it loses one
-  pub taker_loses : holder_of table s ≡ suc i → loses table s (holder_of table s) i ≡ true
-  taker_loses e = rw (eq-eqb (holder_of table s) (suc i) e)
-
-  -- "servers below it lose nothing"
-  pub below_keeps : (m : ℕ) → holder_of table s ≡ suc m → m < i → loses table s (holder_of table s) i ≡ false
-  below_keeps m e h = rw (e, ne_eqb (suc m) (suc i) (λ q. omega arith), le-ltb i m (omega arith))
-
-  -- a server that the walk goes past does not take the tick
-  past_over : i < table.servers_n → (n : ℕ) → holder_of table s ≡ n → goes_past n i ≡ true → qualifies table s i ≡ false
-  past_over h zero e p = first_not (qualifies table s) table.servers_n 0 e i (omega arith) (omega arith)
-  past_over h (suc m) e p = (holder_first table s m e).before i (omega arith) (ltb-true i m p)
-
-  module _ (h : i < table.servers_n) (p : goes_past (holder_of table s) i ≡ true) (budget : 0 < get_or s.budgets i 0) where
-    -- it has no waiting work, if it has budget
-    pub past_idle : first_task table s (suc i) ≡ 0
-    past_idle = no_work (get_or s.budgets i 0) (first_task table s (suc i)) (past_over h (holder_of table s) refl p) budget
-
-    -- and then loses one just if it is periodic: "loses one and the walk goes on"
-    pub past_loses : loses table s (holder_of table s) i ≡ is_periodic (server_at table i).kind
-    past_loses =
-        rw (not_taker (holder_of table s) p, p, lt-ltb 0 (get_or s.budgets i 0) budget, past_idle) (and_yes (is_periodic (server_at table i).kind))
-      where
-        not_taker : (n : ℕ) → goes_past n i ≡ true → eqb n (suc i) ≡ false
-        not_taker zero q = ne_eqb 0 (suc i) (λ e. omega arith)
-        not_taker (suc m) q = ne_eqb (suc m) (suc i) (λ e. omega (arith, ltb-true i m q))
-
-        and_yes : (b : Bool) → (b && true) ≡ b
-        and_yes true = refl
-        and_yes false = refl
-
-  module _ (n : ℕ) (e : runs_down table s n i ≡ true) where
-    idle : idles (get_or s.budgets i 0) (server_at table i).kind (first_task table s (suc i)) ≡ true
-    idle = and_right (goes_past n i) _ e
-
-    -- a server whose budget runs down idle: the walk goes past it, it is periodic, and has budget and no waiting work
-    pub idle_past : goes_past n i ≡ true
-    idle_past = and_left (goes_past n i) _ e
-
-    pub idle_periodic : is_periodic (server_at table i).kind ≡ true
-    idle_periodic = and_left (is_periodic (server_at table i).kind) _ idle
-
-    pub idle_budget : 0 < get_or s.budgets i 0
-    idle_budget =
-        ltb-true 0 (get_or s.budgets i 0) (and_left (ltb 0 (get_or s.budgets i 0)) _ (and_right (is_periodic (server_at table i).kind) _ idle))
-
-    pub idle_waits : first_task table s (suc i) ≡ 0
-    idle_waits =
-        eqb-true (first_task table s (suc i)) 0 (and_right (ltb 0 (get_or s.budgets i 0)) _ (and_right (is_periodic (server_at table i).kind) _ idle))
 
 -- ---- the state behind the tick
 
@@ -166,12 +110,11 @@ module _ (table : Table) (ok : Obeyed table) (s : State) (full : Full table s) w
 
   -- the next state
   pub next_budget : (i : ℕ) → i < table.servers_n
-      → get_or (next table s).budgets i 0
-      ≡ refilled s.tick (server_at table i) (get_or s.budgets i 0) - pick (loses table (ready table s) (holder table s) i) 1 0
+      → get_or (next table s).budgets i 0 ≡ refilled s.tick (server_at table i) (get_or s.budgets i 0) - pick (eqb (holder table s) (suc i)) 1 0
   unfolding next
   next_budget i h =
-      each_at (loses table (ready table s) (holder table s)) (ready table s).budgets table.servers_n i h (omega (arith, ready_full.budgets))
-      ∙ ap (λ n. n - pick (loses table (ready table s) (holder table s) i) 1 0) (ready_budget i h)
+      less_at (ready table s).budgets (holder table s) i (omega (arith, ready_full.budgets))
+      ∙ ap (λ n. n - pick (eqb (holder table s) (suc i)) 1 0) (ready_budget i h)
 
   pub next_waiting : (j : ℕ) → j < table.tasks_n
       → get_or (next table s).waiting j 0 ≡ (get_or s.waiting j 0 + gains (task_at table j) s.tick) - pick (eqb (runner table s) (suc j)) 1 0
@@ -184,15 +127,15 @@ module _ (table : Table) (ok : Obeyed table) (s : State) (full : Full table s) w
   unfolding next
   next_full =
       record {
-        budgets = omega (arith, ready_full.budgets, each_length (loses table (ready table s) (holder table s)) (ready table s).budgets table.servers_n);
+        budgets = omega (arith, ready_full.budgets, less_length (ready table s).budgets (holder table s));
         waiting = omega (arith, ready_full.waiting, less_length (ready table s).waiting (runner table s));
       }
 
   -- entries beyond the counts pass through
   pub budget_passes : (i : ℕ) → table.servers_n ≤ i → get_or (next table s).budgets i 0 ≡ get_or s.budgets i 0
-  unfolding next ready
+  unfolding next ready holder
   budget_passes i h =
-      each_beyond (loses table (ready table s) (holder table s)) (ready table s).budgets table.servers_n i h
+      less_other (ready table s).budgets (holder table s) i (λ e. omega (arith, holder_server table (ready table s) i e))
       ∙ along_outside (refilled s.tick) table.servers s.budgets table.servers_n i ok.servers h
 
   pub waiting_passes : (j : ℕ) → table.tasks_n ≤ j → get_or (next table s).waiting j 0 ≡ get_or s.waiting j 0

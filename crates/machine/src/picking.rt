@@ -1,11 +1,11 @@
-// (3) and (4) Who takes the tick, and who runs in it.
+// (3) and (4) Who holds the tick, and who runs in it.
 ghost use Rattle.std.specs.Prelude.{◌≡◌, ◌≤◌};
-ghost use Rattle.machine.specs.Machine.{may_take};
+ghost use Rattle.machine.specs.Machine.{is_periodic, may_hold, holder_of};
 ghost use Rattle.table.specs.Places.{Obeyed};
-ghost use Rattle.machine.specs.Parts.{Firsts, noted, first_taker, entry_of};
+ghost use Rattle.machine.specs.Parts.{Firsts, noted, entry_of};
 
 use crate::State;
-use table::Table;
+use table::{Kind, Table};
 
 // The first task seen so far, going up the table, once a task with so much waiting work is looked at.
 fn note(waiting: u32, number: u32, seen: u32) -> u32
@@ -36,27 +36,43 @@ pub fn first_tasks(state: State, table: Table) -> [u32; 16]
     firsts
 }
 
-// Whether a server with such a budget and first task takes a tick that it is offered.
-fn may_take(budget: u32, first: u32) -> bool
-    ensures { result ≡ may_take budget first }
+// Whether a server holds a tick without work.
+fn holds_idle(kind: Kind) -> bool
+    ensures { result ≡ is_periodic kind }
+{
+    match kind {
+        Kind::Deferrable => false,
+        Kind::Periodic => true,
+    }
+}
+
+// Whether a server with such a budget and first task holds a tick that it is offered.
+fn may_hold(budget: u32, kind: Kind, first: u32) -> bool
+    ensures { result ≡ may_hold budget kind first }
 {
     if budget == 0 {
         return false;
     }
+    if holds_idle(kind) {
+        return true;
+    }
     0 < first
 }
 
-// The first of `n` servers with budget and waiting work, or 0.
-pub fn first_server(state: State, n: usize, firsts: [u32; 16]) -> u32
-    requires { n ≤ 16 }
-    ensures { result ≡ first_taker state.budgets firsts n }
+// The first server that has budget left, and is periodic or has waiting work, or 0.
+pub fn first_server(state: State, table: Table, firsts: [u32; 16]) -> u32
+    requires { Obeyed table × Firsts table state firsts }
+    ensures { result ≡ holder_of table state }
 {
+    let n = table.servers_n;
     let mut i: usize = 0;
     while i < n {
         let number = (i as u32) + 1;
+        let server = table.servers[i];
+        let kind = server.kind;
         let first = firsts[i];
         let budget = state.budgets[i];
-        if may_take(budget, first) {
+        if may_hold(budget, kind, first) {
             return number;
         }
         i += 1;

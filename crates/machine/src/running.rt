@@ -1,9 +1,24 @@
-// (4) What the runner loses.
+// (3) and (4) What the holder and the runner lose.
 ghost use Rattle.std.specs.Prelude.{◌≡◌, ◌≤◌};
-ghost use Rattle.machine.specs.Machine.{runs};
+ghost use Rattle.machine.specs.Machine.{spends, runs};
 ghost use Rattle.machine.specs.Parts.{Has};
 
 use crate::State;
+
+// The holder loses one of budget.
+pub fn spend(state: State, holder: u32) -> State
+    requires { (holder ≤ 16) × Has state.budgets holder }
+    ensures { result ≡ spends holder state }
+{
+    if holder == 0 {
+        return state;
+    }
+    let i = (holder - 1) as usize;
+    let mut spent = state;
+    let budget = spent.budgets[i];
+    spent.budgets[i] = budget - 1;
+    spent
+}
 
 // The runner loses one of its waiting work.
 pub fn run(state: State, runner: u32) -> State

@@ -10,7 +10,7 @@ use Rattle.windows.specs.Windows.{cover, fit}
 use Rattle.table.specs.declared.Table.{Table}
 use Rattle.table.specs.Places.{task_at, Obeyed}
 use Rattle.table.proofs.Obeyed.{tasks_most}
-use Rattle.schedule.specs.Curves.{releases_from, demand_of, left_below}
+use Rattle.schedule.specs.Curves.{releases_from, demand_of}
 use Rattle.answers.specs.Answers.{none, judged, verdict_of, response_of, task_answer, no_task_answer}
 use Rattle.answers.specs.declared.Response.{Response}
 use Rattle.answers.specs.declared.TaskAnswer.{TaskAnswer}
@@ -23,8 +23,8 @@ use Rattle.noting.proofs.Noting.{noted_same, noted_more, reached, reached_none, 
 -- ---- the tasks of the server with number s
 
 -- the walk along the tasks has come to place j, with the ticks left to the task there and the notes of the tasks before it
-pub record Answering (table : Table) (tick s : ℕ) (spent : List ℕ) (k j : ℕ) (notes : TaskNotes) : Type 0 where
-  pub left : Left table (s - 1) spent k j
+pub record Answering (table : Table) (tick s : ℕ) (held : List ℕ) (k j : ℕ) (notes : TaskNotes) : Type 0 where
+  pub left : Left table (s - 1) held k j
   pub noted : TasksNoted table tick (reached table s j) notes
 
 -- a test that says the same
@@ -37,20 +37,14 @@ tasks_same {table} {tick} e w = record {
   marked = noted_same (runs_at table tick) false e w.marked;
 }
 
-pub answering_starts : (table : Table) (s : ℕ) {tick : ℕ} {spent : List ℕ} {n : ℕ} {notes : TaskNotes} → Left table (s - 1) spent n 0
-    → TasksNoted table tick (of_below table s) notes → Answering table tick s spent n 0 notes
+pub answering_starts : (table : Table) (s : ℕ) {tick : ℕ} {held : List ℕ} {n : ℕ} {notes : TaskNotes} → Left table (s - 1) held n 0
+    → TasksNoted table tick (of_below table s) notes → Answering table tick s held n 0 notes
 answering_starts table s l w = record { left = l; noted = tasks_same (reached_none table s) w }
 
-module _ {table : Table} {tick s : ℕ} {spent : List ℕ} {k j : ℕ} {notes : TaskNotes} (w : Answering table tick s spent k j notes) where
+module _ {table : Table} {tick s : ℕ} {held : List ℕ} {k j : ℕ} {notes : TaskNotes} (w : Answering table tick s held k j notes) where
   -- all tasks of the server are noted
   pub answering_ends : table.tasks_n ≤ j → TasksNoted table tick (of_below table (s + 1)) notes
   answering_ends h = tasks_same (reached_all table s j h) w.noted
-
-  -- and what they leave stands where the ticks spent stood
-  pub answering_left : {old : List ℕ} → length spent ≡ length old → table.tasks_n ≤ j → Wrote old spent k (left_below table (s - 1) table.tasks_n)
-  answering_left same h =
-      let all : j ≡ table.tasks_n = omega (arith, w.left.within) in
-      record { same = same; count = w.left.count; front = w.left.front ∙ ap (left_below table (s - 1)) all }
 
   module _ (ok : Obeyed table) (some : 0 < s) (h : j < table.tasks_n) where
     -- there is a place for the notes of the task there
@@ -61,7 +55,7 @@ module _ {table : Table} {tick s : ℕ} {spent : List ℕ} {k j : ℕ} {notes : 
     mark_place = omega (arith, w.noted.marks, tasks_most table ok)
 
     -- a task of another server is passed
-    pub answering_other : ¬ ((task_at table j).server ≡ s) → Answering table tick s spent k (j + 1) notes
+    pub answering_other : ¬ ((task_at table j).server ≡ s) → Answering table tick s held k (j + 1) notes
     answering_other d = record { left = left_other w.left h (λ e. d (omega arith)); noted = tasks_same (reached_other table s j d) w.noted }
 
     module _ (e : (task_at table j).server ≡ s) where
@@ -69,7 +63,7 @@ module _ {table : Table} {tick s : ℕ} {spent : List ℕ} {k j : ℕ} {notes : 
       place = omega arith
 
       -- what is judged on the ticks served is the task's answer
-      answer_is : {first run : List ℕ} {m : ℕ} → Wrote first run m (fit (demand_of table.span (task_at table j)) (take k spent)).served → (a : Response)
+      answer_is : {first run : List ℕ} {m : ℕ} → Wrote first run m (fit (demand_of table.span (task_at table j)) (take k held)).served → (a : Response)
           → a ≡ response_of (task_at table j).deadline (judged (take m run) (task_at table j).work 1 (releases_from (task_at table j).release table.span 0) none)
           → ◌≡◌ {A = TaskAnswer} (record { response = a }) (task_answer table j)
       unfolding verdict_of
@@ -81,8 +75,8 @@ module _ {table : Table} {tick s : ℕ} {spent : List ℕ} {k j : ℕ} {notes : 
 
       -- a task of the server is noted, and the next one has what it leaves
       pub answering_own : {first run after : List ℕ} {m l : ℕ}
-          → Wrote first run m (fit (demand_of table.span (task_at table j)) (take k spent)).served
-          → Wrote spent after l (fit (demand_of table.span (task_at table j)) (take k spent)).left → (a : Response)
+          → Wrote first run m (fit (demand_of table.span (task_at table j)) (take k held)).served
+          → Wrote held after l (fit (demand_of table.span (task_at table j)) (take k held)).left → (a : Response)
           → a ≡ response_of (task_at table j).deadline (judged (take m run) (task_at table j).work 1 (releases_from (task_at table j).release table.span 0) none)
           → (b : Bool) → b ≡ ltb 0 (cover (take m run) tick)
           → Answering table tick s after l (j + 1) (record { answers = set notes.answers j (record { response = a }); runs = set notes.runs j b })

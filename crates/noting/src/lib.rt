@@ -1,8 +1,7 @@
 // What is noted of a server's tasks, one after the other: each one's answer, and whether it runs in one tick.
-ghost use Rattle.std.specs.Prelude.{◌≡◌, ◌+◌, ◌-◌, ◌≤◌, ◌<◌, length, take};
+ghost use Rattle.std.specs.Prelude.{◌≡◌, suc, ℕ, ◌+◌, ◌≤◌, ◌<◌, length, take};
 ghost use Rattle.table.specs.Places.{Obeyed};
-ghost use Rattle.schedule.specs.Curves.{spent_of, left_below};
-ghost use Rattle.buffers.specs.Parts.{Wrote};
+ghost use Rattle.schedule.specs.Curves.{held_of};
 ghost use Rattle.noting.specs.Noted.{TasksNoted, of_below};
 
 use answers::TaskAnswer;
@@ -18,30 +17,22 @@ pub struct TaskNotes {
     pub runs: [bool; 64],
 }
 
-// The notes once the tasks of one server more are looked at, and how many numbers the ticks that they leave have.
-#[derive(Drop)]
-pub struct Shared {
-    pub notes: TaskNotes,
-    pub left: usize,
-}
-
-// Notes the tasks of the server with a number. The first `n` numbers of `spent` are the ticks that it spends, and then those of them that its tasks leave.
+// Notes the tasks of the server with a number. The first `n` numbers of `held` are its held ticks.
 pub fn answer_tasks(
     table: Table,
     tick: u32,
     server: u32,
     n: usize,
-    spent: &mut [u32],
+    held: &mut [u32],
     part: &mut [u32],
     running: &mut [u32],
     spare: &mut [u32],
     old: TaskNotes,
-) -> Shared
-    requires { Obeyed table × (0 < server) × (server - 1 < table.servers_n) × (take n spent.old ≡ spent_of table (server - 1))
-        × (n ≤ length spent.old) × (16000 ≤ length spent.old) × (16000 ≤ length part.old) × (16000 ≤ length running.old)
+) -> TaskNotes
+    requires { Obeyed table × ((i : ℕ) → server ≡ suc i → (i < table.servers_n) × (take n held.old ≡ held_of table i)) × (0 < server)
+        × (n ≤ length held.old) × (16000 ≤ length held.old) × (16000 ≤ length part.old) × (16000 ≤ length running.old)
         × (16000 ≤ length spare.old) × TasksNoted table tick (of_below table server) old }
-    ensures { TasksNoted table tick (of_below table (server + 1)) result.notes
-        × Wrote spent.old spent.new result.left (left_below table (server - 1) table.tasks_n)
+    ensures { TasksNoted table tick (of_below table (server + 1)) result × (length held.new ≡ length held.old)
         × (length part.new ≡ length part.old) × (length running.new ≡ length running.old)
         × (length spare.new ≡ length spare.old) }
 {
@@ -54,7 +45,7 @@ pub fn answer_tasks(
     while j < count {
         let task = table.tasks[j];
         if task.server == server {
-            let shares = share(task, span, left, spent, part, running, spare);
+            let shares = share(task, span, left, held, part, running, spare);
             let k = shares.running;
             let response = judge(task, span, &running[..k]);
             answers[j] = TaskAnswer { response };
@@ -63,6 +54,5 @@ pub fn answer_tasks(
         }
         j += 1;
     }
-    let notes = TaskNotes { answers, runs };
-    Shared { notes, left }
+    TaskNotes { answers, runs }
 }

@@ -1,4 +1,4 @@
--- The texts are read, by computing, a line at a time. Assumes nothing.
+-- The five texts are read, by computing, a line at a time. Assumes nothing.
 use Prim.Native.Nat.{ℕ, ◌+◌}
 use mathlib.Core.Path.{◌≡◌, refl, ap, ◌∙◌}
 use mathlib.Core.List.{List, [], ◌∷◌}
@@ -18,7 +18,7 @@ use Rattle.lines.specs.declared.Line.TheVariants.{SpanIs, ServerIs, TaskIs, Wron
 use Rattle.reading.specs.Reading.{no_table, refusal, accepted, ended_of, after_line, read_lines, reading_of}
 use Rattle.reading.specs.Pieces.{with_line}
 use Rattle.reading.specs.declared.Reading.{Reading}
-use Rattle.reading.specs.Examples.{text_a, text_b, text_c, text_e, text_f, text_free, text_zero, read_a, read_b, read_c, read_e, read_f, read_free, Checked}
+use Rattle.reading.specs.Examples.{text_a, text_b, text_c, text_free, text_zero, read_a, read_b, read_c, read_free, Checked}
 
 -- ---- lines of which it is known what they say
 
@@ -53,7 +53,7 @@ a_server_lem k c t = ServerIs (record { kind = k; capacity = c; period = t })
 abbrev a_task : ℕ → ℕ → Release → ℕ → Line
 a_task s w r d = TaskIs (record { server = s; work = w; release = r; deadline = d })
 
--- ---- the texts
+-- ---- the five texts
 
 abbrev said_a : List Line
 said_a = SpanIs 0 ∷ a_server_lem Deferrable 3 10 ∷ a_server_lem Deferrable 2 4 ∷ a_task 1 1 (Every 0 4) 4 ∷ a_task 2 1 (Every 0 5) 5 ∷ a_task 2 2 (Every 0 8) 8 ∷ []
@@ -91,32 +91,6 @@ read_c_lem : reading_of text_c ≡ accepted read_c
 unfolding all server_periods task_periods first_multiple
 read_c_lem = ap (λ ls. read_lines ls no_table 1) (lines_are text_c) ∙ said_reads said_c _ no_table 1 says_c
 
-abbrev said_e : List Line
-said_e = SpanIs 8 ∷ a_server_lem Periodic 3 4 ∷ a_server_lem Deferrable 2 4 ∷ a_task 1 3 (Once 4) 4 ∷ a_task 2 1 (Every 0 4) 4 ∷ []
-
-says_e : LinesSay said_e (all_but_last (pieces 10 text_e)) no_table 1
-unfolding all all_but_last same_bytes digits_from
-says_e =
-    (rw split_is (rw split_is refl), (rw split_is (rw split_is refl), (rw split_is (rw split_is refl), (rw split_is (rw split_is refl), (rw split_is (rw split_is refl), tt)))))
-
-read_e_lem : reading_of text_e ≡ accepted read_e
-unfolding all server_periods task_periods first_multiple
-read_e_lem = ap (λ ls. read_lines ls no_table 1) (lines_are text_e) ∙ said_reads said_e _ no_table 1 says_e
-
-abbrev said_f : List Line
-said_f =
-    SpanIs 8 ∷ a_server_lem Deferrable 2 4 ∷ a_server_lem Periodic 2 6 ∷ a_server_lem Deferrable 1 3 ∷ a_task 1 2 (Once 0) 4 ∷ a_task 2 1 (Once 3) 6
-    ∷ a_task 2 1 (Once 4) 6 ∷ a_task 3 1 (Once 2) 3 ∷ []
-
-says_f : LinesSay said_f (all_but_last (pieces 10 text_f)) no_table 1
-unfolding all all_but_last same_bytes digits_from
-says_f =
-    (rw split_is (rw split_is refl), (rw split_is (rw split_is refl), (rw split_is (rw split_is refl), (rw split_is (rw split_is refl), (rw split_is (rw split_is refl), (rw split_is (rw split_is refl), (rw split_is (rw split_is refl), (rw split_is (rw split_is refl), tt))))))))
-
-read_f_lem : reading_of text_f ≡ accepted read_f
-unfolding all server_periods task_periods first_multiple
-read_f_lem = ap (λ ls. read_lines ls no_table 1) (lines_are text_f) ∙ said_reads said_f _ no_table 1 says_f
-
 abbrev said_free : List Line
 said_free = SpanIs 8 ∷ a_server_lem Deferrable 2 4 ∷ a_server_lem Periodic 1 4 ∷ a_task 1 5 (Every 0 4) 9 ∷ []
 
@@ -140,4 +114,4 @@ read_zero : reading_of text_zero ≡ refusal LeadingZero 2 4
 read_zero = ap (λ ls. read_lines ls no_table 1) (lines_are text_zero) ∙ said_reads said_zero _ no_table 1 says_zero
 
 pub checked : Checked
-checked = record { a = read_a_lem; b = read_b_lem; c = read_c_lem; e = read_e_lem; f = read_f_lem; free = read_free_lem; zero = read_zero }
+checked = record { a = read_a_lem; b = read_b_lem; c = read_c_lem; free = read_free_lem; zero = read_zero }

@@ -1,5 +1,5 @@
--- Document 01, 'What the report program prints' and examples 11 and 12: the texts of tables A, B and C, and the tables that they are read to; two
--- of document 02, E3; a text for two sentences that forbid nothing; and one that is refused for a field (document 02, E2).
+-- Document 01, 'What the report program prints' and examples 11 and 12: the texts of tables A, B and C, and the tables that they are read to; a
+-- text for two sentences that forbid nothing; and one that is refused for a field (document 02, E2).
 use Rattle.std.specs.Prelude.{ℕ, ◌≡◌, List, [], ◌∷◌, replicate}
 use Rattle.table.specs.Rules.{no_server, no_task}
 use Rattle.table.specs.declared.Kind.TheVariants.{Deferrable, Periodic}
@@ -96,72 +96,6 @@ read_c = record {
       ∷ replicate 62 no_task;
 }
 
--- two tables in which the budget of a periodic server runs down idle (document 02, E3)
--- span 8
--- server periodic 3 4
--- server deferrable 2 4
--- once 1 3 4 4
--- every 2 1 0 4 4
-abbrev pub text_e : List ℕ
-text_e =
-    115 ∷ 112 ∷ 97 ∷ 110 ∷ 9 ∷ 56 ∷ 10
-    ∷ 115 ∷ 101 ∷ 114 ∷ 118 ∷ 101 ∷ 114 ∷ 9 ∷ 112 ∷ 101 ∷ 114 ∷ 105 ∷ 111 ∷ 100 ∷ 105 ∷ 99 ∷ 9 ∷ 51 ∷ 9 ∷ 52 ∷ 10
-    ∷ 115 ∷ 101 ∷ 114 ∷ 118 ∷ 101 ∷ 114 ∷ 9 ∷ 100 ∷ 101 ∷ 102 ∷ 101 ∷ 114 ∷ 114 ∷ 97 ∷ 98 ∷ 108 ∷ 101 ∷ 9 ∷ 50 ∷ 9 ∷ 52 ∷ 10
-    ∷ 111 ∷ 110 ∷ 99 ∷ 101 ∷ 9 ∷ 49 ∷ 9 ∷ 51 ∷ 9 ∷ 52 ∷ 9 ∷ 52 ∷ 10
-    ∷ 101 ∷ 118 ∷ 101 ∷ 114 ∷ 121 ∷ 9 ∷ 50 ∷ 9 ∷ 49 ∷ 9 ∷ 48 ∷ 9 ∷ 52 ∷ 9 ∷ 52 ∷ 10 ∷ []
-
-abbrev pub read_e : Table
-read_e = record {
-  span = 8;
-  servers_n = 2;
-  tasks_n = 2;
-  servers =
-      record { kind = Periodic; capacity = 3; period = 4 }
-      ∷ record { kind = Deferrable; capacity = 2; period = 4 }
-      ∷ replicate 14 no_server;
-  tasks =
-      record { server = 1; work = 3; release = Once 4; deadline = 4 }
-      ∷ record { server = 2; work = 1; release = Every 0 4; deadline = 4 }
-      ∷ replicate 62 no_task;
-}
-
--- span 8
--- server deferrable 2 4
--- server periodic 2 6
--- server deferrable 1 3
--- once 1 2 0 4
--- once 2 1 3 6
--- once 2 1 4 6
--- once 3 1 2 3
-abbrev pub text_f : List ℕ
-text_f =
-    115 ∷ 112 ∷ 97 ∷ 110 ∷ 9 ∷ 56 ∷ 10
-    ∷ 115 ∷ 101 ∷ 114 ∷ 118 ∷ 101 ∷ 114 ∷ 9 ∷ 100 ∷ 101 ∷ 102 ∷ 101 ∷ 114 ∷ 114 ∷ 97 ∷ 98 ∷ 108 ∷ 101 ∷ 9 ∷ 50 ∷ 9 ∷ 52 ∷ 10
-    ∷ 115 ∷ 101 ∷ 114 ∷ 118 ∷ 101 ∷ 114 ∷ 9 ∷ 112 ∷ 101 ∷ 114 ∷ 105 ∷ 111 ∷ 100 ∷ 105 ∷ 99 ∷ 9 ∷ 50 ∷ 9 ∷ 54 ∷ 10
-    ∷ 115 ∷ 101 ∷ 114 ∷ 118 ∷ 101 ∷ 114 ∷ 9 ∷ 100 ∷ 101 ∷ 102 ∷ 101 ∷ 114 ∷ 114 ∷ 97 ∷ 98 ∷ 108 ∷ 101 ∷ 9 ∷ 49 ∷ 9 ∷ 51 ∷ 10
-    ∷ 111 ∷ 110 ∷ 99 ∷ 101 ∷ 9 ∷ 49 ∷ 9 ∷ 50 ∷ 9 ∷ 48 ∷ 9 ∷ 52 ∷ 10
-    ∷ 111 ∷ 110 ∷ 99 ∷ 101 ∷ 9 ∷ 50 ∷ 9 ∷ 49 ∷ 9 ∷ 51 ∷ 9 ∷ 54 ∷ 10
-    ∷ 111 ∷ 110 ∷ 99 ∷ 101 ∷ 9 ∷ 50 ∷ 9 ∷ 49 ∷ 9 ∷ 52 ∷ 9 ∷ 54 ∷ 10
-    ∷ 111 ∷ 110 ∷ 99 ∷ 101 ∷ 9 ∷ 51 ∷ 9 ∷ 49 ∷ 9 ∷ 50 ∷ 9 ∷ 51 ∷ 10 ∷ []
-
-abbrev pub read_f : Table
-read_f = record {
-  span = 8;
-  servers_n = 3;
-  tasks_n = 4;
-  servers =
-      record { kind = Deferrable; capacity = 2; period = 4 }
-      ∷ record { kind = Periodic; capacity = 2; period = 6 }
-      ∷ record { kind = Deferrable; capacity = 1; period = 3 }
-      ∷ replicate 13 no_server;
-  tasks =
-      record { server = 1; work = 2; release = Once 0; deadline = 4 }
-      ∷ record { server = 2; work = 1; release = Once 3; deadline = 6 }
-      ∷ record { server = 2; work = 1; release = Once 4; deadline = 6 }
-      ∷ record { server = 3; work = 1; release = Once 2; deadline = 3 }
-      ∷ replicate 60 no_task;
-}
-
 -- "Work may exceed the period", "a server may have no task":
 -- span 8
 -- server deferrable 2 4
@@ -200,7 +134,5 @@ pub record Checked : Type 0 where
   pub a : reading_of text_a ≡ accepted read_a
   pub b : reading_of text_b ≡ accepted read_b
   pub c : reading_of text_c ≡ accepted read_c
-  pub e : reading_of text_e ≡ accepted read_e
-  pub f : reading_of text_f ≡ accepted read_f
   pub free : reading_of text_free ≡ accepted read_free
   pub zero : reading_of text_zero ≡ refusal LeadingZero 2 4

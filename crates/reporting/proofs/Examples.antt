@@ -1,11 +1,11 @@
--- The reports of the tables and of a refused text: the text is read (`reading`), and the rest computed.
+-- The reports of tables A, B and C and of a refused text: the text is read (`reading`), and the rest computed.
 use Prim.Native.Nat.{ℕ}
 use mathlib.Core.Path.{◌≡◌, refl, ap, ◌∙◌}
 use mathlib.Core.List.{List}
 use Rattle.windows.specs.Windows.{inside, cover, end_of, window, join, runs, upto, waiting, done, fit_in, fit, first_given}
-use Rattle.windows.specs.Servers.{before, spent}
+use Rattle.windows.specs.Servers.{before, held}
 use Rattle.table.specs.Places.{first_of}
-use Rattle.schedule.specs.Curves.{below, releases_from, with_releases, demand_of, summed_below, spent_in, left_in, free_of, running_of}
+use Rattle.schedule.specs.Curves.{below, releases_from, with_releases, demand_of, summed_below, held_in, free_of, left_below, running_of}
 use Rattle.answers.specs.Answers.{judged, verdict_of, entries}
 use Rattle.putting.specs.Decimal.{digits}
 use Rattle.printing.specs.Report.{span_line, short_field, server_line, response_fields, task_line, listed, refused_line, report_of}
@@ -14,13 +14,13 @@ use Rattle.refusals.specs.declared.Ground.{Ground}
 use Rattle.refusals.specs.declared.Ground.TheVariants.{LeadingZero}
 use Rattle.table.specs.declared.Table.{Table}
 use Rattle.reading.specs.Reading.{refusal, accepted, reading_of}
-use Rattle.reading.specs.Examples.{text_a, text_b, text_c, text_e, text_f, text_zero, read_a, read_b, read_c, read_e, read_f}
+use Rattle.reading.specs.Examples.{text_a, text_b, text_c, text_zero, read_a, read_b, read_c}
 use Rattle.reading.specs.declared.Reading.{Reading}
 use Rattle.reading.proofs.Examples as read
 use Rattle.scheduling.specs.Analysing.{not_analysed, analysed}
 use Rattle.opening.specs.Opening.{answer_by}
 use Rattle.reporting.specs.Reporting.{report_for}
-use Rattle.reporting.specs.Examples.{printed_a, printed_b, printed_c, printed_e, printed_f, printed_zero, Checked}
+use Rattle.reporting.specs.Examples.{printed_a, printed_b, printed_c, printed_zero, Checked}
 
 -- the report of a text whose table is known
 from_table : (text : List ℕ) (table : Table) → reading_of text ≡ accepted table → report_for text ≡ report_of (analysed table)
@@ -34,20 +34,16 @@ record Printed : Type 0 where
   a : report_of (analysed read_a) ≡ printed_a
   b : report_of (analysed read_b) ≡ printed_b
   c : report_of (analysed read_c) ≡ printed_c
-  e : report_of (analysed read_e) ≡ printed_e
-  f : report_of (analysed read_f) ≡ printed_f
   zero : report_of (not_analysed (refused_at LeadingZero 2 4)) ≡ printed_zero
 
 printed : Printed
-unfolding inside cover end_of window join runs upto waiting done fit_in fit first_given before spent first_of below releases_from with_releases demand_of summed_below spent_in left_in free_of running_of judged verdict_of entries digits span_line short_field server_line response_fields task_line listed refused_line report_of
-printed = record { a = refl; b = refl; c = refl; e = refl; f = refl; zero = refl }
+unfolding inside cover end_of window join runs upto waiting done fit_in fit first_given before held first_of below releases_from with_releases demand_of summed_below held_in free_of left_below running_of judged verdict_of entries digits span_line short_field server_line response_fields task_line listed refused_line report_of
+printed = record { a = refl; b = refl; c = refl; zero = refl }
 
 pub checked : Checked
 checked = record {
   table_a = from_table text_a read_a (read.checked).a ∙ printed.a;
   table_b = from_table text_b read_b (read.checked).b ∙ printed.b;
   table_c = from_table text_c read_c (read.checked).c ∙ printed.c;
-  table_e = from_table text_e read_e (read.checked).e ∙ printed.e;
-  table_f = from_table text_f read_f (read.checked).f ∙ printed.f;
   zero = from_refusal text_zero LeadingZero 2 4 (read.checked).zero ∙ printed.zero;
 }

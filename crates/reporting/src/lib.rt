@@ -15,7 +15,7 @@ fn analysed(text: &[u8]) -> Analysis
     let mut free = [0u32; 16000];
     let mut sum = [0u32; 16000];
     let mut part = [0u32; 16000];
-    let mut spent = [0u32; 16000];
+    let mut held = [0u32; 16000];
     let mut running = [0u32; 16000];
     let mut spare = [0u32; 16000];
     scheduling::analyse(
@@ -23,7 +23,7 @@ fn analysed(text: &[u8]) -> Analysis
         &mut free,
         &mut sum,
         &mut part,
-        &mut spent,
+        &mut held,
         &mut running,
         &mut spare,
     )

@@ -1,7 +1,7 @@
--- Demand 3: for every table that obeys the rules and every tick of its span, the server that holds the tick, which is the one that takes it, and the task
--- that runs in it, read from the curves, are the machine's. Assumes nothing.
+-- Demand 3: for every table that obeys the rules and every tick of its span, the server that holds the tick and the task that runs in it, read
+-- from the curves, are the machine's. Assumes nothing.
 use Prim.Native.Nat.{ℕ, zero, suc, ◌+◌, ◌≤◌, ◌<◌}
-use mathlib.Core.Path.{◌≡◌, refl, sym, ap, ◌∙◌}
+use mathlib.Core.Path.{◌≡◌, refl, ap, ◌∙◌}
 use mathlib.Core.Bool.{Bool, true, false}
 use native.Mathlib.Omega.{arith}
 use native.Mathlib.Decide.{dec_lt, ℕ_discrete}
@@ -9,19 +9,17 @@ use lib.Dec.{ltb, eqb}
 use borrow.Author.Tests.{eq-eqb, ne_eqb, eqb-true}
 use Rattle.basics.specs.Choice.{pick}
 use Rattle.windows.specs.Windows.{cover}
-use Rattle.table.specs.declared.Kind.TheVariants.{Deferrable}
 use Rattle.table.specs.declared.Table.{Table}
-use Rattle.table.specs.Places.{server_at, server_of_task, first_of, Obeyed}
+use Rattle.table.specs.Places.{first_of, Obeyed}
 use Rattle.machine.specs.Machine.{ready, holder, runner}
 use Rattle.machine.specs.Run.{state_before, holder_at, runner_at}
 use Rattle.table.proofs.Places.{is_first, none_of_lem}
 use Rattle.machine.proofs.OneTick.{holder_server, runner_task}
-use Rattle.machine.proofs.WholeRun.{mark, spends_splits, holder_of_runner}
-use Rattle.schedule.specs.Curves.{free_of, spent_of, taken_of, running_of, holder_from, runner_from}
+use Rattle.machine.proofs.WholeRun.{mark}
+use Rattle.schedule.specs.Curves.{free_of, held_of, running_of, holder_from, runner_from}
 use Rattle.schedule.specs.Ticks.{free_ticks}
-use Rattle.schedule.proofs.FromCurves.{free_cover, spent_inside, spent_cover, taken_inside, taken_cover, free_next, running_cover}
-use Rattle.schedule.proofs.AsServers.{never_idle}
-use Rattle.schedule.proofs.AsMachine.{spent_is_machine, taken_is_machine, run_is_machine}
+use Rattle.schedule.proofs.FromCurves.{free_cover, held_inside, held_cover, held_free, free_next, running_cover}
+use Rattle.schedule.proofs.AsMachine.{held_is_machine, run_is_machine}
 
 -- ---- the first place that is marked with a number is the number's own
 
@@ -50,9 +48,9 @@ module _ (table : Table) (ok : Obeyed table) (t : ℕ) (h : t < table.span) wher
   pub holder_agrees : holder_from table t ≡ holder_at table t
   unfolding holder
   holder_agrees =
-      first_marked_lem (λ i. ltb 0 (cover (taken_of table i) t)) table.servers_n (holder_at table t)
+      first_marked_lem (λ i. ltb 0 (cover (held_of table i) t)) table.servers_n (holder_at table t)
       (λ m e. holder_server table (ready table (state_before table t)) m e)
-      (λ i k. ap (ltb 0) (taken_cover table ok i k t h ∙ taken_is_machine table ok i k t) ∙ mark_test (holder_at table t) i)
+      (λ i k. ap (ltb 0) (held_cover table ok i k t h ∙ held_is_machine table ok i k t) ∙ mark_test (holder_at table t) i)
 
   pub runner_agrees : runner_from table t ≡ runner_at table t
   unfolding runner
@@ -61,56 +59,33 @@ module _ (table : Table) (ok : Obeyed table) (t : ℕ) (h : t < table.span) wher
       (λ m e. runner_task table (ready table (state_before table t)) (holder_at table t) m e)
       (λ j k. ap (ltb 0) (running_cover table ok j k t h ∙ run_is_machine table ok j k t) ∙ mark_test (runner_at table t) j)
 
-  -- so the holder is the runner's server, or both are none
-  pub holder_by_runner : holder_from table t ≡ server_of_task table (runner_from table t)
-  holder_by_runner = holder_agrees ∙ holder_of_runner table t ∙ ap (server_of_task table) (sym runner_agrees)
+-- ---- free and held ticks share the span
 
--- ---- free and taken ticks share the span
-
--- how many of the servers above place i take the tick
-unfoldable pub taken_above : Table → ℕ → ℕ → ℕ
-taken_above table zero t = 0
-taken_above table (suc i) t = taken_above table i t + cover (taken_of table i) t
+-- how many of the servers above place i hold the tick
+unfoldable pub held_above : Table → ℕ → ℕ → ℕ
+held_above table zero t = 0
+held_above table (suc i) t = held_above table i t + cover (held_of table i) t
 
 module _ (table : Table) (ok : Obeyed table) where
-  -- a tick of the span is free for a server just if no server above it takes it
-  pub free_and_taken : (i : ℕ) → i ≤ table.servers_n → (t : ℕ) → t < table.span → cover (free_of table i) t + taken_above table i t ≡ 1
-  unfolding taken_above free_ticks
-  free_and_taken zero k t h = omega (arith, free_cover table ok 0 k t h)
-  free_and_taken (suc i) k t h = omega (arith, free_and_taken i (omega arith) t h, free_next table ok i k t)
+  -- a tick of the span is free for a server just if no server above it holds it
+  pub free_and_held : (i : ℕ) → i ≤ table.servers_n → (t : ℕ) → t < table.span → cover (free_of table i) t + held_above table i t ≡ 1
+  unfolding held_above free_ticks
+  free_and_held zero k t h = omega (arith, free_cover table ok 0 k t h)
+  free_and_held (suc i) k t h = omega (arith, free_and_held i (omega arith) t h, free_next table ok i k t)
 
-  taken_above_lem : (i k : ℕ) → i < k → (t : ℕ) → cover (taken_of table i) t ≤ taken_above table k t
-  unfolding taken_above
-  taken_above_lem i zero h t = absurd (omega arith)
-  taken_above_lem i (suc k) h t = go (ℕ_discrete i k) (taken_above_lem i k)
+  held_above_lem : (i k : ℕ) → i < k → (t : ℕ) → cover (held_of table i) t ≤ held_above table k t
+  unfolding held_above
+  held_above_lem i zero h t = absurd (omega arith)
+  held_above_lem i (suc k) h t = go (ℕ_discrete i k) (held_above_lem i k)
     where
-      go : Dec (i ≡ k) → (i < k → (t : ℕ) → cover (taken_of table i) t ≤ taken_above table k t)
-          → cover (taken_of table i) t ≤ taken_above table k t + cover (taken_of table k) t
+      go : Dec (i ≡ k) → (i < k → (t : ℕ) → cover (held_of table i) t ≤ held_above table k t) → cover (held_of table i) t ≤ held_above table k t + cover (held_of table k) t
       go (yes e) ih = rw e (omega arith)
       go (no e) ih = omega (arith, ih (omega arith) t)
 
-  -- the taken ticks of two servers share none
-  pub taken_share_none : (i k : ℕ) → i < k → k < table.servers_n → (t : ℕ) → cover (taken_of table i) t + cover (taken_of table k) t ≤ 1
-  taken_share_none i k h l t = go (dec_lt t table.span)
+  -- the held ticks of two servers share none
+  pub held_share_none : (i k : ℕ) → i < k → k < table.servers_n → (t : ℕ) → cover (held_of table i) t + cover (held_of table k) t ≤ 1
+  held_share_none i k h l t = go (dec_lt t table.span)
     where
-      go : Dec (t < table.span) → cover (taken_of table i) t + cover (taken_of table k) t ≤ 1
-      go (yes e) = omega (arith, free_and_taken k (omega arith) t e, taken_above_lem i k h t, free_next table ok k l t)
-      go (no e) = omega (arith, (taken_inside table ok i).over t (omega arith), (taken_inside table ok k).over t (omega arith))
-
-  -- a deferrable server takes all the ticks that it spends
-  pub deferrable_takes : (i : ℕ) → i < table.servers_n → (server_at table i).kind ≡ Deferrable → (t : ℕ)
-      → cover (taken_of table i) t ≡ cover (spent_of table i) t
-  deferrable_takes i k d t = go (dec_lt t table.span)
-    where
-      go : Dec (t < table.span) → cover (taken_of table i) t ≡ cover (spent_of table i) t
-      go (yes h) =
-          omega (
-            arith,
-            taken_cover table ok i k t h,
-            taken_is_machine table ok i k t,
-            spent_cover table ok i k t h,
-            spent_is_machine table ok i k t,
-            spends_splits table t i,
-            never_idle table ok i d t,
-          )
-      go (no h) = omega (arith, (taken_inside table ok i).over t (omega arith), (spent_inside table ok i k).over t (omega arith))
+      go : Dec (t < table.span) → cover (held_of table i) t + cover (held_of table k) t ≤ 1
+      go (yes e) = omega (arith, free_and_held k (omega arith) t e, held_above_lem i k h t, held_free table ok k l t)
+      go (no e) = omega (arith, (held_inside table ok i (omega arith)).over t (omega arith), (held_inside table ok k l).over t (omega arith))

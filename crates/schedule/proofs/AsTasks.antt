@@ -1,4 +1,5 @@
--- The machine's tasks, each as a queue: its work, on the ticks that the tasks before it leave of those that its server spends. Assumes nothing.
+-- The machine's tasks, each as a queue: its work, on the ticks that the tasks before it leave of those that its server holds. Assumes
+-- nothing.
 use Prim.Native.Nat.{ℕ, zero, suc, ◌+◌, ◌-◌, ◌≤◌, ◌<◌, min}
 use mathlib.Core.Path.{◌≡◌, sym, ap, ◌∙◌, fun_ext}
 use mathlib.Core.Bool.{Bool, true, false, ◌&&◌}
@@ -13,15 +14,13 @@ use Rattle.table.specs.declared.Table.{Table}
 use Rattle.machine.specs.declared.State.{State}
 use Rattle.table.specs.Places.{task_at, Obeyed}
 use Rattle.table.specs.Releases.{gains}
-use Rattle.machine.specs.Machine.{waits, first_task, runs_down, runner_of, ready, runner}
-use Rattle.machine.specs.Run.{state_before, holder_at, runner_at, takes_in, idles_in, spends_in, runs_in}
-use Rattle.table.proofs.Places.{first_not}
-use Rattle.machine.proofs.OneTick.{idle_waits}
-use Rattle.machine.proofs.WholeRun.{is_marked, mark_most, bit_one, bit_true, runner_of_holder, spends_splits, work_ready, waiting_next, work_counts}
-use Rattle.schedule.specs.Ticks.{leaves_of}
+use Rattle.machine.specs.Machine.{waits, first_task, runner_of, ready, runner}
+use Rattle.machine.specs.Run.{state_before, holder_at, runner_at, holds, runs_in}
+use Rattle.machine.proofs.WholeRun.{is_marked, mark_most, runner_of_holder, work_ready, waiting_next, work_counts}
+use Rattle.schedule.specs.Ticks.{held_ticks, left_ticks}
 use Rattle.schedule.proofs.Marks.{mark_own, mark_other, mark_one, unmarked, unmarked_one, mark_first, passed_over}
 
--- ---- one tick: h is 1 if the server takes it, u if no task before this one runs in it, and m if this one does
+-- ---- one tick: h is 1 if the server holds it, u if no task before this one runs in it, and m if this one does
 
 -- a task of the server takes its tick from what is left
 left_less : (h u m : ℕ) → h ≤ 1 → u ≤ 1 → m ≤ h → m ≤ u → min h u ≡ min h (u - m) + m
@@ -31,53 +30,49 @@ left_less h u m a b c d = omega arith
 left_keeps : (h u m : ℕ) → u ≤ 1 → h + m ≤ 1 → min h u ≡ min h (u - m)
 left_keeps h u m a b = omega arith
 
--- where a task does not run in a tick left to it that the server takes, no task up to this one runs
-left_waits : (h u m : ℕ) → h ≤ 1 → u ≤ 1 → m < min h u → (u ≡ 1) × (m ≡ 0)
-left_waits h u m a b c = (omega arith, omega arith)
+-- where a task does not run in a tick left to it, the server holds the tick and no task up to this one runs
+left_waits : (h u m : ℕ) → h ≤ 1 → u ≤ 1 → m < min h u → (h ≡ 1) × ((u ≡ 1) × (m ≡ 0))
+left_waits h u m a b c = (omega arith, (omega arith, omega arith))
 
--- ---- what the tasks below place j leave of the ticks that the server at place i spends
+-- ---- what the tasks below place j leave of the ticks of the server at place i
 
 module _ (table : Table) where
-  -- 1 where the server's budget runs down idle, or it takes the tick and none of the tasks below place j runs in it
+  -- 1 where that server holds the tick and none of the tasks below place j runs in it
   abbrev pub left : ℕ → ℕ → ℕ → ℕ
-  left i j t = idles_in table i t + min (takes_in table i t) (unmarked (runner_at table t) j)
+  left i j t = min (holds table i t) (unmarked (runner_at table t) j)
 
-  -- a task runs only where its server takes the tick
-  runs_taken : (i j t : ℕ) → (task_at table j).server ≡ suc i → runs_in table j t ≤ takes_in table i t
-  runs_taken i j t e = mark_most (runner_at table t) j (takes_in table i t) (λ q. one (mark_own (runner_at table t) j q))
+  -- a task runs only where its server holds
+  runs_held : (i j t : ℕ) → (task_at table j).server ≡ suc i → runs_in table j t ≤ holds table i t
+  runs_held i j t e = mark_most (runner_at table t) j (holds table i t) (λ q. one (mark_own (runner_at table t) j q))
     where
-      one : runs_in table j t ≡ 1 → 0 < takes_in table i t
+      one : runs_in table j t ≡ 1 → 0 < holds table i t
       one q = omega (arith, mark_own (holder_at table t) i (sym (runner_of_holder table t j q) ∙ e))
 
-  -- and not where another server does
-  runs_not_taken : (i j t : ℕ) → ¬ ((task_at table j).server ≡ suc i) → takes_in table i t + runs_in table j t ≤ 1
-  runs_not_taken i j t h = go (ℕ_discrete (runs_in table j t) 1)
+  -- and not where another server holds
+  runs_not_held : (i j t : ℕ) → ¬ ((task_at table j).server ≡ suc i) → holds table i t + runs_in table j t ≤ 1
+  runs_not_held i j t h = go (ℕ_discrete (runs_in table j t) 1)
     where
-      go : Dec (runs_in table j t ≡ 1) → takes_in table i t + runs_in table j t ≤ 1
+      go : Dec (runs_in table j t ≡ 1) → holds table i t + runs_in table j t ≤ 1
       go (yes q) = omega (arith, q, mark_other (holder_at table t) i (λ e. h (runner_of_holder table t j q ∙ e)))
       go (no q) = omega (arith, mark_one (runner_at table t) j, mark_one (holder_at table t) i)
 
-  -- with no task looked at, all that is spent is left
-  pub left_all : (i t : ℕ) → spends_in table i t ≡ left i 0 t
+  -- with no task looked at, all that is held is left
+  pub left_all : (i t : ℕ) → holds table i t ≡ left i 0 t
   unfolding unmarked
-  left_all i t = omega (arith, mark_one (holder_at table t) i, spends_splits table t i)
+  left_all i t = omega (arith, mark_one (holder_at table t) i)
 
   -- a task of the server at place i leaves what it does not run in
   pub left_own : (i j t : ℕ) → (task_at table j).server ≡ suc i → left i j t ≡ left i (suc j) t + runs_in table j t
   unfolding unmarked
   left_own i j t e =
-      omega (
-        arith,
-        left_less (takes_in table i t) (unmarked (runner_at table t) j) (runs_in table j t) (mark_one (holder_at table t) i)
-            (unmarked_one (runner_at table t) j) (runs_taken i j t e) (mark_first (runner_at table t) j),
-      )
+      left_less (holds table i t) (unmarked (runner_at table t) j) (runs_in table j t) (mark_one (holder_at table t) i)
+      (unmarked_one (runner_at table t) j) (runs_held i j t e) (mark_first (runner_at table t) j)
 
   -- any other leaves all
   pub left_other : (i j t : ℕ) → ¬ ((task_at table j).server ≡ suc i) → left i j t ≡ left i (suc j) t
   unfolding unmarked
   left_other i j t h =
-      ap (λ n. idles_in table i t + n)
-      (left_keeps (takes_in table i t) (unmarked (runner_at table t) j) (runs_in table j t) (unmarked_one (runner_at table t) j) (runs_not_taken i j t h))
+      left_keeps (holds table i t) (unmarked (runner_at table t) j) (runs_in table j t) (unmarked_one (runner_at table t) j) (runs_not_held i j t h)
 
 -- ---- each task is a queue on what is left to it
 
@@ -99,44 +94,28 @@ module _ (table : Table) (ok : Obeyed table) (j : ℕ) (h : j < table.tasks_n) w
   waits_no_more t e = omega (arith, e, work_ready table ok j h t, waiting_next table ok j h t)
 
   module _ (i : ℕ) (own : (task_at table j).server ≡ suc i) where
-    abbrev ahead : ℕ → State
-    ahead t = ready table (state_before table t)
-
-    -- where its server takes the tick, and no task up to it runs, it has no work
-    taken_waits : (t : ℕ) → takes_in table i t ≡ 1 → unmarked (runner_at table t) j ≡ 1 → runs_in table j t ≡ 0 → get_or (ahead t).waiting j 0 ≡ 0
+    -- where its server holds, and no task up to it runs, it has no work
+    idle_waits : (t : ℕ) → holds table i t ≡ 1 → unmarked (runner_at table t) j ≡ 1 → runs_in table j t ≡ 0
+        → get_or (ready table (state_before table t)).waiting j 0 ≡ 0
     unfolding runner
-    taken_waits t q u m =
-        let e : first_task table (ahead t) (suc i) ≡ runner_at table t = ap (runner_of table (ahead t)) (sym (is_marked (holder_at table t) i q)) in
-        not_waits table (ahead t) (suc i) j (passed_over (waits table (ahead t) (suc i)) table.tasks_n (runner_at table t) j e h u m) own
+    idle_waits t q u m =
+        let s = ready table (state_before table t) in
+        let e : first_task table s (suc i) ≡ runner_at table t = ap (runner_of table s) (sym (is_marked (holder_at table t) i q)) in
+        not_waits table s (suc i) j (passed_over (waits table s (suc i)) table.tasks_n (runner_at table t) j e h u m) own
 
-    -- nor where its server's budget runs down idle
-    idle_none : (t : ℕ) → idles_in table i t ≡ 1 → get_or (ahead t).waiting j 0 ≡ 0
-    idle_none t q =
-        let e = idle_waits table (ahead t) i (holder_at table t) (bit_true (runs_down table (ahead t) (holder_at table t) i) q) in
-        not_waits table (ahead t) (suc i) j (first_not (waits table (ahead t) (suc i)) table.tasks_n 0 e j (omega arith) (omega arith)) own
-
-    -- so where it does not run in a tick left to it, it has no work
-    left_done : (t : ℕ) → runs_in table j t < left table i j t → get_or (ahead t).waiting j 0 ≡ 0
-    left_done t l = go (ℕ_discrete (idles_in table i t) 1)
-      where
-        go : Dec (idles_in table i t ≡ 1) → get_or (ahead t).waiting j 0 ≡ 0
-        go (yes q) = idle_none t q
-        go (no q) =
-            let z : idles_in table i t ≡ 0 = omega (arith, bit_one (runs_down table (ahead t) (holder_at table t) i)) in
-            let f =
-            left_waits (takes_in table i t) (unmarked (runner_at table t) j) (runs_in table j t) (mark_one (holder_at table t) i)
-            (unmarked_one (runner_at table t) j) (omega (arith, l, z)) in
-            taken_waits t (omega (arith, l, z, mark_one (holder_at table t) i)) f.0 f.1
-
-    -- and all that came is done
+    -- so all its work is done then
     idle_done : (t : ℕ) → runs_in table j t < left table i j t → upto (runs_in table j) (suc t) ≡ upto (gains (task_at table j)) (suc t)
-    idle_done t l = omega (arith, work_counts table ok j h (suc t), waits_no_more t (left_done t l))
+    idle_done t k =
+        let f =
+        left_waits (holds table i t) (unmarked (runner_at table t) j) (runs_in table j t) (mark_one (holder_at table t) i)
+        (unmarked_one (runner_at table t) j) k in
+        omega (arith, work_counts table ok j h (suc t), waits_no_more t (idle_waits t f.0 f.1.0 f.1.1))
 
     -- it runs at the earliest ticks left to it
     run_serves : Serves (gains (task_at table j)) (left table i j) (runs_in table j)
     run_serves =
         record {
-          within = λ t. omega (arith, runs_taken table i j t own, mark_first (runner_at table t) j);
+          within = λ t. omega (arith, runs_held table i j t own, mark_first (runner_at table t) j);
           causal = λ t. omega (arith, work_counts table ok j h t);
           busy = idle_done;
         }
@@ -147,17 +126,14 @@ module _ (table : Table) (ok : Obeyed table) (j : ℕ) (h : j < table.tasks_n) w
 
 -- ---- what is left, task by task
 
-module _ (table : Table) (ok : Obeyed table) (i : ℕ) where
-  -- of the ticks that the machine's server spends, its tasks leave what they leave in the machine
-  pub left_same : (j : ℕ) → j ≤ table.tasks_n → leaves_of table i (spends_in table i) j ≡ left table i j
-  unfolding leaves_of
-  left_same zero h = fun_ext (λ t. left_all table i t)
+module _ (table : Table) (ok : Obeyed table) (i : ℕ) (held : held_ticks table i ≡ holds table i) where
+  -- where the ticks held are the machine's, so are those that are left
+  pub left_same : (j : ℕ) → j ≤ table.tasks_n → left_ticks table i j ≡ left table i j
+  unfolding left_ticks
+  left_same zero h = held ∙ fun_ext (λ t. left_all table i t)
   left_same (suc j) h = go (left_same j (omega arith)) (ℕ_discrete (task_at table j).server (suc i))
     where
-      f : ℕ → ℕ
-      f = spends_in table i
-
-      go : leaves_of table i f j ≡ left table i j → Dec ((task_at table j).server ≡ suc i) → leaves_of table i f (suc j) ≡ left table i (suc j)
+      go : left_ticks table i j ≡ left table i j → Dec ((task_at table j).server ≡ suc i) → left_ticks table i (suc j) ≡ left table i (suc j)
       go ih (yes e) =
           rw (eq-eqb (task_at table j).server (suc i) e, ih, ← run_done table ok j h i e)
           (fun_ext (λ t. omega (arith, left_own table i j t e)))

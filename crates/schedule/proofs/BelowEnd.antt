@@ -1,21 +1,21 @@
--- Curves that lie below an end H: fitting there is a queue's serving, and a server's budget goes there as its queue does. Assumes nothing.
+-- Curves that lie below an end H: fitting there is a queue's serving, and holding there is a server's queue. Assumes nothing.
 use Prim.Native.Nat.{ℕ, ◌+◌, ◌-◌, ◌≤◌, ◌<◌}
 use mathlib.Core.Path.{◌≡◌, refl, ap, ◌∙◌}
 use mathlib.Core.List.{List}
 use native.Mathlib.Omega.{arith}
 use Rattle.windows.specs.Windows.{cover, windows_of, done, always, fit}
-use Rattle.windows.specs.Servers.{spent}
+use Rattle.windows.specs.Servers.{held}
 use Rattle.windows.proofs.Ticks.{Apart, cover_one, cover_after}
 use Rattle.windows.proofs.Runs.{runs_apart, runs_end, runs_cover}
 use Rattle.windows.proofs.Queue.{smooth, done_past}
 use Rattle.windows.proofs.Fitting.{Fitted, fitted}
 use Rattle.table.specs.declared.Kind.{Kind}
 use Rattle.table.specs.declared.Kind.TheVariants.{Deferrable, Periodic}
-use Rattle.schedule.specs.Curves.{spending}
+use Rattle.schedule.specs.Curves.{holding}
 use Rattle.schedule.specs.Ticks.{wants}
 use Rattle.schedule.proofs.Demands.{Inside}
-use Rattle.schedule.proofs.Capacities.{done_smooth, spent_smooth, spent_past, first_free_is_spent}
-use Rattle.windows.proofs.Capacity.{spent_is_free}
+use Rattle.schedule.proofs.Capacities.{done_smooth, held_smooth, held_past, first_free_is_held}
+use Rattle.windows.proofs.Capacity.{held_is_free}
 
 -- ---- curves below an end
 
@@ -59,20 +59,20 @@ module _ (H : ℕ) (d s : List ℕ) (pd : Inside H d) (ps : Inside H s) where
     pub rest_cover : (t : ℕ) → t < H → cover (fit d s).left t ≡ f t - done x f t
     rest_cover t h = omega (arith, fit_splits t, served_cover t h, supply t h)
 
--- ---- the ticks on which a server's budget goes, below an end
+-- ---- what a server holds below an end
 
--- such a tick is free
-pub spending_free : (C T : ℕ) (d l : List ℕ) (kind : Kind) (t : ℕ) → spending kind C T d l t ≤ cover l t
-spending_free C T d l Deferrable t = spent_is_free C T (cover d) (cover l) t
-spending_free C T d l Periodic t = omega arith
+-- a tick that it holds is free
+pub holding_free : (C T : ℕ) (d l : List ℕ) (kind : Kind) (t : ℕ) → holding kind C T d l t ≤ cover l t
+holding_free C T d l Deferrable t = held_is_free C T (cover d) (cover l) t
+holding_free C T d l Periodic t = omega arith
 
 -- the demand d covers the smoothed work x, the free curve l covers f
 module _ (H C T : ℕ) (d l : List ℕ) (x f : ℕ → ℕ) (p : 0 < T) (apart : Apart 0 l) (unit : (t : ℕ) → f t ≤ 1)
     (demand : (t : ℕ) → t < H → cover d t ≡ smooth x t) (free : (t : ℕ) → t < H → cover l t ≡ f t) where
-  pub spending_is : (kind : Kind) (t : ℕ) → t < H → spending kind C T d l t ≡ spent C T (wants kind x) f t
-  spending_is Deferrable t h =
-      spent_past C T (cover d) (smooth x) (cover l) f t (λ u k. demand u (omega arith)) (λ u k. free u (omega arith))
-      ∙ ap (λ (g : ℕ → ℕ). g t) (spent_smooth C T x f p unit)
-  spending_is Periodic t h =
-      ap (λ (g : ℕ → ℕ). g t) (first_free_is_spent C T (cover l) p (λ u. cover_one l 0 u apart))
-      ∙ spent_past C T always always (cover l) f t (λ u k. refl) (λ u k. free u (omega arith))
+  pub holding_is : (kind : Kind) (t : ℕ) → t < H → holding kind C T d l t ≡ held C T (wants kind x) f t
+  holding_is Deferrable t h =
+      held_past C T (cover d) (smooth x) (cover l) f t (λ u k. demand u (omega arith)) (λ u k. free u (omega arith))
+      ∙ ap (λ (g : ℕ → ℕ). g t) (held_smooth C T x f p unit)
+  holding_is Periodic t h =
+      ap (λ (g : ℕ → ℕ). g t) (first_free_is_held C T (cover l) p (λ u. cover_one l 0 u apart))
+      ∙ held_past C T always always (cover l) f t (λ u k. refl) (λ u k. free u (omega arith))

@@ -1,13 +1,12 @@
 -- The marks of the places below one, and what they tell of the first place that passes a test. Assumes nothing.
 use Prim.Native.Nat.{ℕ, zero, suc, ◌-◌, ◌≤◌, ◌<◌}
 use mathlib.Core.Path.{◌≡◌, refl, ap}
-use mathlib.Core.Bool.{Bool, true, false}
+use mathlib.Core.Bool.{Bool, false}
 use native.Mathlib.Omega.{arith}
 use native.Mathlib.Decide.{dec_lt, ℕ_discrete}
-use borrow.Author.Tests.{eq-eqb, ne_eqb, lt-ltb, ltb-true}
+use borrow.Author.Tests.{eq-eqb, ne_eqb}
 use Rattle.table.specs.Places.{first_of}
 use Rattle.table.proofs.Places.{first_is, first_not}
-use Rattle.machine.specs.Machine.{goes_past}
 use Rattle.machine.proofs.WholeRun.{mark, mark_most}
 
 -- the mark is 1 at the number's own place
@@ -69,23 +68,3 @@ passed_over p k (suc n) i e h u m = go (ℕ_discrete n i)
     go : Dec (n ≡ i) → p i ≡ false
     go (yes q) = absurd (omega (arith, m, mark_own (suc n) i (ap suc q)))
     go (no q) = (first_is p k 0 n e).before i (omega arith) (omega (arith, unmarked_not_behind n i u))
-
--- ---- a walk down the places that stops at the number's own goes past those that have no mark on them and none below them
-
--- where there is no number, no place is its own
-pub unmarked_none : (i : ℕ) → unmarked 0 i ≡ 1
-unfolding unmarked
-unmarked_none zero = refl
-unmarked_none (suc i) = omega (arith, unmarked_none i, mark_other 0 i (λ e. omega arith))
-
-pub past_unmarked : (n i : ℕ) → goes_past n i ≡ true → unmarked n i ≡ 1
-past_unmarked zero i e = unmarked_none i
-past_unmarked (suc m) i e = unmarked_before (suc m) i (omega (arith, ltb-true i m e))
-
-pub unmarked_past : (n i : ℕ) → unmarked n i ≡ 1 → mark n i ≡ 0 → goes_past n i ≡ true
-unmarked_past zero i e k = refl
-unmarked_past (suc m) i e k = go (ℕ_discrete m i)
-  where
-    go : Dec (m ≡ i) → goes_past (suc m) i ≡ true
-    go (yes q) = absurd (omega (arith, k, mark_own (suc m) i (ap suc q)))
-    go (no q) = lt-ltb i m (omega (arith, unmarked_not_behind m i e))

@@ -1,9 +1,8 @@
--- Document 01, 'Servers, one tick at a time', and request E3 of document 02: the same from curves. A number counted from 1 is one more than its place in
--- the table.
+-- Document 01, 'Servers, one tick at a time': the same from curves. A number counted from 1 is one more than its place in the table.
 use Rattle.std.specs.Prelude.{ℕ, zero, suc, ◌+◌, ◌-◌, min, List, [], ◌∷◌, Bool, ltb, eqb}
 use Rattle.basics.specs.Choice.{pick}
 use Rattle.windows.specs.Windows.{window, cover, add_up, windows_of, fit}
-use Rattle.windows.specs.Servers.{so_far, spent}
+use Rattle.windows.specs.Servers.{so_far, held}
 use Rattle.table.specs.declared.Kind.{Kind}
 use Rattle.table.specs.declared.Kind.TheVariants.{Deferrable, Periodic}
 use Rattle.table.specs.declared.Release.{Release}
@@ -38,7 +37,7 @@ with_releases H work demand (r ∷ rs) = with_releases H work (below H (add_up d
 unfoldable pub demand_of : ℕ → Task → List ℕ
 demand_of H task = with_releases H task.work [] (releases_from task.release H 0)
 
--- ---- the ticks on which a server's budget goes
+-- ---- the held ticks of a server
 
 -- "its tasks' summed demand": of those below place j
 unfoldable pub summed_below : Table → ℕ → ℕ → List ℕ
@@ -54,47 +53,37 @@ abbrev pub first_free : ℕ → ℕ → (ℕ → ℕ) → ℕ → ℕ
 first_free C T free t = min (free t) (C - so_far T free t)
 
 -- "A deferrable server's held ticks are its tasks' summed demand fitted into its free curve, each unit at the earliest free tick whose
--- period has fewer than C held ticks so far"; "a periodic server's budget still goes on the first C free ticks of each period"
-abbrev pub spending : Kind → ℕ → ℕ → List ℕ → List ℕ → ℕ → ℕ
-spending Deferrable C T demand free = spent C T (cover demand) (cover free)
-spending Periodic C T demand free = first_free C T (cover free)
+-- period has fewer than C held ticks so far; a periodic server holds the first C free ticks of each period"
+abbrev pub holding : Kind → ℕ → ℕ → List ℕ → List ℕ → ℕ → ℕ
+holding Deferrable C T demand free = held C T (cover demand) (cover free)
+holding Periodic C T demand free = first_free C T (cover free)
 
--- the ticks on which the budget of the server at place i goes, if its free curve is this
-unfoldable pub spent_in : Table → ℕ → List ℕ → List ℕ
-spent_in table i free =
+-- the held ticks of the server at place i, if its free curve is this
+unfoldable pub held_in : Table → ℕ → List ℕ → List ℕ
+held_in table i free =
     let server = server_at table i in
-    windows_of (spending server.kind server.capacity server.period (summed table i) free) table.span
+    windows_of (holding server.kind server.capacity server.period (summed table i) free) table.span
 
--- ---- "its tasks' demands are fitted into these, it takes only those in which one of them runs"
-
--- 01: "Held ticks go to tasks in order, each demand fitted into what is left": what the tasks below place j leave of the ticks spent by the server at place i
-unfoldable pub left_in : Table → ℕ → List ℕ → ℕ → List ℕ
-left_in table i spent zero = spent
-left_in table i spent (suc j) =
-    pick (belongs table i j) (fit (demand_of table.span (task_at table j)) (left_in table i spent j)).left (left_in table i spent j)
+-- ---- "A server's free curve is the span without the ticks held by higher servers"
 
 -- the ticks of a that are not in b, below H
 abbrev pub without : ℕ → List ℕ → List ℕ → List ℕ
 without H a b = windows_of (λ t. cover a t - cover b t) H
 
--- what the server takes of the ticks that it spends: those that its tasks do not leave
-abbrev pub taken_in : Table → ℕ → List ℕ → List ℕ
-taken_in table i spent = without table.span spent (left_in table i spent table.tasks_n)
-
--- ---- "A lower server's free curve is from now on the span without the ticks taken above it"
-
 unfoldable pub free_of : Table → ℕ → List ℕ
 free_of table zero = window 0 table.span []
-free_of table (suc i) = without table.span (free_of table i) (taken_in table i (spent_in table i (free_of table i)))
+free_of table (suc i) = without table.span (free_of table i) (held_in table i (free_of table i))
 
-abbrev pub spent_of : Table → ℕ → List ℕ
-spent_of table i = spent_in table i (free_of table i)
+abbrev pub held_of : Table → ℕ → List ℕ
+held_of table i = held_in table i (free_of table i)
 
-abbrev pub left_below : Table → ℕ → ℕ → List ℕ
-left_below table i j = left_in table i (spent_of table i) j
+-- ---- "Held ticks go to tasks in order, each demand fitted into what is left"
 
-abbrev pub taken_of : Table → ℕ → List ℕ
-taken_of table i = taken_in table i (spent_of table i)
+-- what the tasks below place j leave of the held ticks of the server at place i
+unfoldable pub left_below : Table → ℕ → ℕ → List ℕ
+left_below table i zero = held_of table i
+left_below table i (suc j) =
+    pick (belongs table i j) (fit (demand_of table.span (task_at table j)) (left_below table i j)).left (left_below table i j)
 
 -- the ticks in which the task at place j runs
 unfoldable pub running_of : Table → ℕ → List ℕ
@@ -102,9 +91,8 @@ running_of table j = (fit (demand_of table.span (task_at table j)) (left_below t
 
 -- ---- who holds a tick and who runs in it, read from the curves
 
--- "the server that holds a tick is now the one that takes it"
 abbrev pub holder_from : Table → ℕ → ℕ
-holder_from table t = first_of (λ i. ltb 0 (cover (taken_of table i) t)) table.servers_n 0
+holder_from table t = first_of (λ i. ltb 0 (cover (held_of table i) t)) table.servers_n 0
 
 abbrev pub runner_from : Table → ℕ → ℕ
 runner_from table t = first_of (λ j. ltb 0 (cover (running_of table j) t)) table.tasks_n 0

@@ -1,7 +1,7 @@
--- The tables of document 01 and of request E3: who holds each tick and who runs in it, read from the curves.
+-- Document 01, tables A, B and C: who holds each tick and who runs in it, read from the curves.
 use Rattle.std.specs.Prelude.{ℕ, zero, suc, ◌+◌, ◌*◌, ◌≡◌, List, [], ◌∷◌}
 use Rattle.table.specs.declared.Table.{Table}
-use Rattle.machine.specs.Examples.{table_a, table_b, table_c, table_e, table_f}
+use Rattle.machine.specs.Examples.{table_a, table_b, table_c}
 use Rattle.schedule.specs.Curves.{holder_from, runner_from}
 
 -- of each of the k ticks from t on, 10 times the holder and the runner
@@ -13,6 +13,4 @@ pub record Checked : Type 0 where
   pub a : ticks_from table_a 40 0
       ≡ 11 ∷ 22 ∷ 23 ∷ 0 ∷ 11 ∷ 22 ∷ 23 ∷ 0 ∷ 11 ∷ 23 ∷ 22 ∷ 0 ∷ 11 ∷ 23 ∷ 0 ∷ 22 ∷ 11 ∷ 23 ∷ 23 ∷ 0 ∷ 11 ∷ 22 ∷ 0 ∷ 0 ∷ 11 ∷ 22 ∷ 23 ∷ 0 ∷ 11 ∷ 23 ∷ 22 ∷ 0 ∷ 11 ∷ 23 ∷ 23 ∷ 0 ∷ 11 ∷ 22 ∷ 0 ∷ 0 ∷ []
   pub b : ticks_from table_b 8 0 ≡ 22 ∷ 0 ∷ 0 ∷ 11 ∷ 11 ∷ 11 ∷ 11 ∷ 22 ∷ []
-  pub c : ticks_from table_c 8 0 ≡ 22 ∷ 0 ∷ 0 ∷ 0 ∷ 0 ∷ 0 ∷ 11 ∷ 0 ∷ []
-  pub e : ticks_from table_e 8 0 ≡ 22 ∷ 0 ∷ 0 ∷ 0 ∷ 11 ∷ 11 ∷ 11 ∷ 22 ∷ []
-  pub f : ticks_from table_f 8 0 ≡ 11 ∷ 11 ∷ 34 ∷ 22 ∷ 0 ∷ 0 ∷ 23 ∷ 0 ∷ []
+  pub c : ticks_from table_c 8 0 ≡ 10 ∷ 10 ∷ 22 ∷ 0 ∷ 0 ∷ 0 ∷ 11 ∷ 10 ∷ []

@@ -3,7 +3,7 @@
 use Rattle.std.specs.Prelude.{ℕ, zero, suc, ◌-◌}
 use Rattle.basics.specs.Choice.{pick}
 use Rattle.windows.specs.Windows.{done, always, ◌⊕◌}
-use Rattle.windows.specs.Servers.{spent}
+use Rattle.windows.specs.Servers.{held}
 use Rattle.table.specs.declared.Kind.{Kind}
 use Rattle.table.specs.declared.Kind.TheVariants.{Deferrable, Periodic}
 use Rattle.table.specs.declared.Table.{Table}
@@ -19,39 +19,29 @@ unfoldable pub works_below : Table → ℕ → ℕ → ℕ → ℕ
 works_below table i zero = nothing
 works_below table i (suc j) = pick (belongs table i j) (works_below table i j ⊕ gains (task_at table j)) (works_below table i j)
 
--- what a server's budget would go on: its tasks' work, or every tick if it is periodic
+-- what a server would hold: its tasks' work, or every tick if it is periodic
 abbrev pub wants : Kind → (ℕ → ℕ) → ℕ → ℕ
 wants Deferrable work = work
 wants Periodic work = always
 
--- the ticks on which the budget of the server at place i goes, of those that are free
-unfoldable pub spends_of : Table → ℕ → (ℕ → ℕ) → ℕ → ℕ
-spends_of table i free =
+-- the ticks held by the server at place i, of those that are free
+unfoldable pub takes : Table → ℕ → (ℕ → ℕ) → ℕ → ℕ
+takes table i free =
     let server = server_at table i in
-    spent server.capacity server.period (wants server.kind (works_below table i table.tasks_n)) free
-
--- what the tasks below place j leave of them
-unfoldable pub leaves_of : Table → ℕ → (ℕ → ℕ) → ℕ → ℕ → ℕ
-leaves_of table i spent zero = spent
-leaves_of table i spent (suc j) =
-    pick (belongs table i j) (λ t. leaves_of table i spent j t - done (gains (task_at table j)) (leaves_of table i spent j) t) (leaves_of table i spent j)
-
--- the ticks that it takes: those that its tasks do not leave
-abbrev pub takes_of : Table → ℕ → (ℕ → ℕ) → ℕ → ℕ
-takes_of table i spent t = spent t - leaves_of table i spent table.tasks_n t
+    held server.capacity server.period (wants server.kind (works_below table i table.tasks_n)) free
 
 unfoldable pub free_ticks : Table → ℕ → ℕ → ℕ
 free_ticks table zero = always
-free_ticks table (suc i) = λ t. free_ticks table i t - takes_of table i (spends_of table i (free_ticks table i)) t
+free_ticks table (suc i) = λ t. free_ticks table i t - takes table i (free_ticks table i) t
 
-abbrev pub spent_ticks : Table → ℕ → ℕ → ℕ
-spent_ticks table i = spends_of table i (free_ticks table i)
+abbrev pub held_ticks : Table → ℕ → ℕ → ℕ
+held_ticks table i = takes table i (free_ticks table i)
 
-abbrev pub left_ticks : Table → ℕ → ℕ → ℕ → ℕ
-left_ticks table i = leaves_of table i (spent_ticks table i)
-
-abbrev pub taken_ticks : Table → ℕ → ℕ → ℕ
-taken_ticks table i = takes_of table i (spent_ticks table i)
+-- what the tasks below place j leave of them
+unfoldable pub left_ticks : Table → ℕ → ℕ → ℕ → ℕ
+left_ticks table i zero = held_ticks table i
+left_ticks table i (suc j) =
+    pick (belongs table i j) (λ t. left_ticks table i j t - done (gains (task_at table j)) (left_ticks table i j) t) (left_ticks table i j)
 
 -- the ticks in which the task at place j runs
 unfoldable pub run_ticks : Table → ℕ → ℕ → ℕ

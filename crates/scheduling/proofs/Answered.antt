@@ -6,8 +6,7 @@ use mathlib.Core.Bool.{Bool}
 use native.Mathlib.Omega.{arith}
 use borrow.Author.Tests.{lt-leb}
 use Rattle.reading.specs.Reading.{reading_of}
-use Rattle.reading.proofs.Accepted.{accepted_obeyed}
-use Rattle.schedule.proofs.Agreement.{holder_by_runner}
+use Rattle.answering.specs.Noted.{holds_at}
 use Rattle.noting.specs.Noted.{runs_at}
 use Rattle.answering.proofs.Marked.{marked_first, unmarked_first}
 use Rattle.scheduling.specs.declared.Worked.{Worked}
@@ -21,9 +20,9 @@ module _ (text : List ℕ) (tick : ℕ) (room : Bool) (r : Worked) (w : Works te
   told_ready : Ready text tick room → told_by r ≡ who_of text tick room
   told_ready o =
       let n = w.noted (ap (λ q. q.number) (w.refusal ∙ o.unrefused)) in
+      let holder = marked_first (holds_at r.table tick) r.table.servers_n r.notes.servers.holds n.holds in
       let runner = marked_first (runs_at r.table tick) r.table.tasks_n r.notes.tasks.runs n.runs in
-      let holder = holder_by_runner (reading_of text).table (accepted_obeyed text o.accepted) tick o.within in
-      rw (runner, w.refusal, w.table, o.unrefused, o.table, o.roomy, o.accepted, lt-leb (reading_of text).table.span tick o.within, holder)
+      rw (holder, runner, w.refusal, w.table, o.unrefused, o.table, o.roomy, o.accepted, lt-leb (reading_of text).table.span tick o.within)
 
   pub told_is : told_by r ≡ who_of text tick room
   told_is = go (way text tick room)
@@ -32,7 +31,7 @@ module _ (text : List ℕ) (tick : ℕ) (room : Bool) (r : Worked) (w : Works te
       go (ready o) = told_ready o
       go (refused n e few a) =
           let none = w.empty (rw w.refusal n) in
-          rw (e, unmarked_first 64 r.table.tasks_n r.notes.tasks.runs none.2, w.refusal)
+          rw (e, unmarked_first 64 r.table.servers_n r.notes.servers.holds none.1, unmarked_first 64 r.table.tasks_n r.notes.tasks.runs none.3, w.refusal)
 
   pub listed_is : tick ≡ 0 → listed_by r ≡ analysis_of text room
   listed_is z = go (way text tick room)
@@ -43,8 +42,8 @@ module _ (text : List ℕ) (tick : ℕ) (room : Bool) (r : Worked) (w : Works te
           rw (n.servers, n.tasks, w.refusal, w.table, o.unrefused, o.table, o.roomy, o.accepted)
       go (refused n e few a) =
           let none = w.empty (rw w.refusal n) in
-          rw ((a z).0, none.0, none.1, w.refusal, w.table, (a z).1)
+          rw ((a z).0, none.0, none.2, w.refusal, w.table, (a z).1)
 
   -- the table has no more entries than there are places
-  pub works_few : r.table.tasks_n ≤ 64
-  works_few = rw w.table (opened_few text tick room).1
+  pub works_few : (r.table.servers_n ≤ 64) × (r.table.tasks_n ≤ 64)
+  works_few = let few = opened_few text tick room in rw w.table (omega (arith, few.0), omega (arith, few.1))

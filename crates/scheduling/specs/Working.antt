@@ -1,6 +1,6 @@
 -- What the private functions make of a text, a tick and six work buffers.
 use Rattle.std.specs.Prelude.{ℕ, ◌<◌, ◌≡◌, List, Bool, false, get_or}
-use Rattle.table.specs.Places.{server_of_task, first_of}
+use Rattle.table.specs.Places.{first_of}
 use Rattle.answers.specs.declared.Analysis.{Analysis}
 use Rattle.opening.specs.Opening.{opened_of}
 use Rattle.answering.specs.Noted.{AllNoted, NoNotes}
@@ -14,15 +14,11 @@ pub record Works (text : List ℕ) (tick : ℕ) (room : Bool) (r : Worked) : Typ
   pub noted : r.refusal.number ≡ 0 → AllNoted r.table tick r.notes
   pub empty : 0 < r.refusal.number → NoNotes r.notes
 
--- the first task that is marked, or 0
-abbrev pub first_marked : Worked → ℕ
-first_marked w = first_of (λ j. get_or w.notes.tasks.runs j false) w.table.tasks_n 0
-
 abbrev pub told_by : Worked → Who
 told_by w = record {
   refusal = w.refusal;
-  holder = server_of_task w.table (first_marked w);
-  runner = first_marked w;
+  holder = first_of (λ i. get_or w.notes.servers.holds i false) w.table.servers_n 0;
+  runner = first_of (λ j. get_or w.notes.tasks.runs j false) w.table.tasks_n 0;
 }
 
 abbrev pub listed_by : Worked → Analysis
@@ -31,6 +27,6 @@ listed_by w = record {
   span = w.table.span;
   servers_n = w.table.servers_n;
   tasks_n = w.table.tasks_n;
-  servers = w.notes.servers;
+  servers = w.notes.servers.answers;
   tasks = w.notes.tasks.answers;
 }

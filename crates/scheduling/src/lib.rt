@@ -1,6 +1,5 @@
 // Who runs when, and what comes of it, worked out from curves on six lent work buffers.
 ghost use Rattle.std.specs.Prelude.{◌≡◌, ◌≤◌};
-ghost use Rattle.table.specs.Places.{server_of_task};
 ghost use Rattle.opening.specs.Opening.{roomy};
 ghost use Rattle.scheduling.specs.Buffers.{Buffers};
 ghost use Rattle.scheduling.specs.Working.{Works, told_by, listed_by};
@@ -37,13 +36,13 @@ fn work_out(
     free: &mut [u32],
     sum: &mut [u32],
     part: &mut [u32],
-    spent: &mut [u32],
+    held: &mut [u32],
     running: &mut [u32],
     spare: &mut [u32],
 ) -> Worked
-    ensures { Works text.now tick (roomy free.old sum.old part.old spent.old
+    ensures { Works text.now tick (roomy free.old sum.old part.old held.old
         running.old spare.old) result × Buffers result.refusal.number free.old sum.old part.old
-        spent.old running.old spare.old free.new sum.new part.new spent.new
+        held.old running.old spare.old free.new sum.new part.new held.new
         running.new spare.new }
 {
     let opened = open_text(
@@ -52,7 +51,7 @@ fn work_out(
         free.len(),
         sum.len(),
         part.len(),
-        spent.len(),
+        held.len(),
         running.len(),
         spare.len(),
     );
@@ -66,8 +65,8 @@ fn work_out(
             notes,
         };
     }
-    let notes = answer_all(table, tick, free, sum, part, spent, running, spare);
-    clear_all(free, sum, part, spent, running, spare);
+    let notes = answer_all(table, tick, free, sum, part, held, running, spare);
+    clear_all(free, sum, part, held, running, spare);
     Worked {
         refusal,
         table,
@@ -75,31 +74,20 @@ fn work_out(
     }
 }
 
-// The server of the task with a number, or 0.
-fn server_of(table: Table, number: u32) -> u32
-    requires { number ≤ 64 }
-    ensures { result ≡ server_of_task table number }
-{
-    if number == 0 {
-        return 0;
-    }
-    let j = (number - 1) as usize;
-    let task = table.tasks[j];
-    task.server
-}
-
-// Who holds the tick and who runs in it: the first task that is marked, and its server, which takes the tick for it.
+// Who holds the tick and who runs in it: the first server and the first task that are marked.
 fn told(worked: Worked) -> Who
-    requires { worked.table.tasks_n ≤ 64 }
+    requires { (worked.table.servers_n ≤ 64) × (worked.table.tasks_n ≤ 64) }
     ensures { result ≡ told_by worked }
 {
     let refusal = worked.refusal;
     let notes = worked.notes;
+    let servers = notes.servers;
     let tasks = notes.tasks;
+    let holds = servers.holds;
     let runs = tasks.runs;
     let table = worked.table;
+    let holder = first_marked(holds, table.servers_n);
     let runner = first_marked(runs, table.tasks_n);
-    let holder = server_of(table, runner);
     Who {
         refusal,
         holder,
@@ -114,8 +102,9 @@ fn listed(worked: Worked) -> Analysis
     let refusal = worked.refusal;
     let table = worked.table;
     let notes = worked.notes;
-    let servers = notes.servers;
+    let of_servers = notes.servers;
     let of_tasks = notes.tasks;
+    let servers = of_servers.answers;
     let tasks = of_tasks.answers;
     Analysis {
         refusal,
@@ -134,15 +123,15 @@ pub fn who_at(
     free: &mut [u32],
     sum: &mut [u32],
     part: &mut [u32],
-    spent: &mut [u32],
+    held: &mut [u32],
     running: &mut [u32],
     spare: &mut [u32],
 ) -> Who
-    ensures { Asks text.now tick free.old sum.old part.old spent.old
-        running.old spare.old result free.new sum.new part.new spent.new
+    ensures { Asks text.now tick free.old sum.old part.old held.old
+        running.old spare.old result free.new sum.new part.new held.new
         running.new spare.new }
 {
-    let worked = work_out(text, tick, free, sum, part, spent, running, spare);
+    let worked = work_out(text, tick, free, sum, part, held, running, spare);
     told(worked)
 }
 
@@ -152,15 +141,15 @@ pub fn analyse(
     free: &mut [u32],
     sum: &mut [u32],
     part: &mut [u32],
-    spent: &mut [u32],
+    held: &mut [u32],
     running: &mut [u32],
     spare: &mut [u32],
 ) -> Analysis
-    ensures { Analyses text.now free.old sum.old part.old spent.old
-        running.old spare.old result free.new sum.new part.new spent.new
+    ensures { Analyses text.now free.old sum.old part.old held.old
+        running.old spare.old result free.new sum.new part.new held.new
         running.new spare.new }
 {
     // tick 0 lies in every span
-    let worked = work_out(text, 0, free, sum, part, spent, running, spare);
+    let worked = work_out(text, 0, free, sum, part, held, running, spare);
     listed(worked)
 }

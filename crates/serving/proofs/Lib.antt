@@ -1,4 +1,3 @@
 pub mod ServerTicks
 pub mod Fittings
 pub mod LeftTicks
-pub mod GivenTicks

@@ -1,4 +1,4 @@
--- What a server would spend, and what it spends and leaves of a free curve. Assumes nothing.
+-- What a server would hold, and what it holds and leaves of a free curve. Assumes nothing.
 use Prim.Native.Nat.{ℕ, ◌-◌, ◌≤◌, ◌<◌}
 use mathlib.Core.Path.{◌≡◌, refl, sym, ap, ◌∙◌}
 use mathlib.Core.List.{List, []}
@@ -13,13 +13,13 @@ use Rattle.table.specs.declared.Kind.TheVariants.{Deferrable, Periodic}
 use Rattle.table.specs.declared.Table.{Table}
 use Rattle.table.specs.Places.{server_at, Obeyed}
 use Rattle.table.proofs.Obeyed.{span_most, server_period}
-use Rattle.schedule.specs.Curves.{summed, spending, spent_in, without}
+use Rattle.schedule.specs.Curves.{summed, holding, held_in, without}
 use Rattle.schedule.proofs.Demands.{Inside, summed_inside}
-use Rattle.windows.proofs.Capacity.{spent_is_free}
-use Rattle.schedule.proofs.Capacities.{spent_past, first_free_is_spent}
-use Rattle.schedule.proofs.BelowEnd.{windows_inside, windows_below, spending_free}
+use Rattle.windows.proofs.Capacity.{held_is_free}
+use Rattle.schedule.proofs.Capacities.{held_past, first_free_is_held}
+use Rattle.schedule.proofs.BelowEnd.{windows_inside, windows_below, holding_free}
 use Rattle.buffers.specs.Parts.{PlainBelow, Curve, Drawn, Wrote, with_window}
-use Rattle.spending.specs.Pieces.{spent_from, left_from}
+use Rattle.holding.specs.Pieces.{held_from, left_from}
 use Rattle.serving.specs.Wanted.{wanted_by, wanted_of}
 use Rattle.demands.proofs.Additions.{plain_below, plain_higher}
 use Rattle.buffers.proofs.Fronts.{plain_room}
@@ -34,7 +34,7 @@ pub empty_curve : (buffer : List ℕ) → 16000 ≤ length buffer → Curve buff
 unfolding cover plain_from
 empty_curve buffer room = record { room = room; count = omega arith; curve = record { plain = refl; over = λ t h. refl } }
 
--- ---- what a server would spend
+-- ---- what a server would hold
 
 -- the whole span
 module _ (H : ℕ) (h : H ≤ 16000) where
@@ -66,7 +66,7 @@ module _ (table : Table) (ok : Obeyed table) (i : ℕ) where
   pub wanted_plain : PlainBelow table.span (wanted_of table i)
   wanted_plain = wanted_by_plain (server_at table i).kind
 
--- ---- what it spends of a free curve, and what it leaves
+-- ---- what it holds of a free curve, and what it leaves
 
 module _ (table : Table) (ok : Obeyed table) (i : ℕ) (h : i < table.servers_n) (free : List ℕ) (p : PlainBelow table.span free) where
   abbrev H : ℕ
@@ -81,54 +81,54 @@ module _ (table : Table) (ok : Obeyed table) (i : ℕ) (h : i < table.servers_n)
   unit : (t : ℕ) → cover free t ≤ 1
   unit t = cover_one free 0 t (plain_apart 0 free p.plain)
 
-  -- what would be spent is fitted in as it would be without an end
-  spending_spent : (kind : Kind) (t : ℕ) → t < H → spending kind C T (summed table i) free t ≡ spent_from C T (wanted_by kind table i) free t
-  spending_spent Deferrable t k = refl
-  spending_spent Periodic t k =
-      ap (λ (f : ℕ → ℕ). f t) (first_free_is_spent C T (cover free) (server_period table ok i h) unit)
-      ∙ spent_past C T always (cover (window 0 H [])) (cover free) (cover free) t (λ u l. sym (span_covers H (span_most table ok) u (omega arith))) (λ u l. refl)
+  -- what would be held is fitted in as it would be without an end
+  holding_held : (kind : Kind) (t : ℕ) → t < H → holding kind C T (summed table i) free t ≡ held_from C T (wanted_by kind table i) free t
+  holding_held Deferrable t k = refl
+  holding_held Periodic t k =
+      ap (λ (f : ℕ → ℕ). f t) (first_free_is_held C T (cover free) (server_period table ok i h) unit)
+      ∙ held_past C T always (cover (window 0 H [])) (cover free) (cover free) t (λ u l. sym (span_covers H (span_most table ok) u (omega arith))) (λ u l. refl)
 
-  abbrev spend : ℕ → ℕ
-  spend = spending (server_at table i).kind C T (summed table i) free
+  abbrev hold : ℕ → ℕ
+  hold = holding (server_at table i).kind C T (summed table i) free
 
-  -- the spent curve covers what is spent
-  pub spent_covers : (t : ℕ) → cover (spent_in table i free) t ≡ spent_from C T (wanted_of table i) free t
-  unfolding spent_in
-  spent_covers t = go (dec_lt t H)
+  -- the held curve covers what is held
+  pub held_covers : (t : ℕ) → cover (held_in table i free) t ≡ held_from C T (wanted_of table i) free t
+  unfolding held_in
+  held_covers t = go (dec_lt t H)
     where
-      go : Dec (t < H) → cover (windows_of spend H) t ≡ spent_from C T (wanted_of table i) free t
+      go : Dec (t < H) → cover (windows_of hold H) t ≡ held_from C T (wanted_of table i) free t
       go (yes k) =
-          windows_below spend H t (λ u. omega (arith, spending_free C T (summed table i) free (server_at table i).kind u, unit u)) k
-          ∙ spending_spent (server_at table i).kind t k
+          windows_below hold H t (λ u. omega (arith, holding_free C T (summed table i) free (server_at table i).kind u, unit u)) k
+          ∙ holding_held (server_at table i).kind t k
       go (no k) =
           let late : H ≤ t = omega arith in
-          omega (arith, (windows_inside spend H).over t late, spent_is_free C T (cover (wanted_of table i)) (cover free) t, p.over t late)
+          omega (arith, (windows_inside hold H).over t late, held_is_free C T (cover (wanted_of table i)) (cover free) t, p.over t late)
 
-  pub spent_plain : PlainBelow H (spent_in table i free)
-  unfolding spent_in
-  spent_plain = plain_below H (windows_of spend H) (omega (arith, span_most table ok)) (windows_inside spend H)
+  pub held_plain : PlainBelow H (held_in table i free)
+  unfolding held_in
+  held_plain = plain_below H (windows_of hold H) (omega (arith, span_most table ok)) (windows_inside hold H)
 
   -- the free curve below covers what is left
   abbrev rest : ℕ → ℕ
-  rest t = cover free t - cover (spent_in table i free) t
+  rest t = cover free t - cover (held_in table i free) t
 
-  pub left_covers : (t : ℕ) → cover (without H free (spent_in table i free)) t ≡ left_from C T (wanted_of table i) free t
+  pub left_covers : (t : ℕ) → cover (without H free (held_in table i free)) t ≡ left_from C T (wanted_of table i) free t
   left_covers t = go (dec_lt t H)
     where
       go : Dec (t < H) → cover (windows_of rest H) t ≡ left_from C T (wanted_of table i) free t
-      go (yes k) = windows_below rest H t (λ u. omega (arith, unit u)) k ∙ ap (λ n. cover free t - n) (spent_covers t)
+      go (yes k) = windows_below rest H t (λ u. omega (arith, unit u)) k ∙ ap (λ n. cover free t - n) (held_covers t)
       go (no k) = let late : H ≤ t = omega arith in omega (arith, (windows_inside rest H).over t late, p.over t late)
 
-  pub left_plain : PlainBelow H (without H free (spent_in table i free))
+  pub left_plain : PlainBelow H (without H free (held_in table i free))
   left_plain = plain_below H (windows_of rest H) (omega (arith, span_most table ok)) (windows_inside rest H)
 
   -- the walk along both curves writes them
   module _ (demand : List ℕ) (e : demand ≡ wanted_of table i) where
-    pub server_spends : {n : ℕ} {old new : List ℕ} → Drawn old new n (spent_from C T demand free) → Wrote old new n (spent_in table i free)
-    server_spends d = drawn_is (spent_in table i free) spent_plain.plain (λ t. rw e (spent_covers t)) d
+    pub server_holds : {n : ℕ} {old new : List ℕ} → Drawn old new n (held_from C T demand free) → Wrote old new n (held_in table i free)
+    server_holds d = drawn_is (held_in table i free) held_plain.plain (λ t. rw e (held_covers t)) d
 
-    pub server_leaves : {n : ℕ} {old new : List ℕ} → Drawn old new n (left_from C T demand free) → Wrote old new n (without H free (spent_in table i free))
-    server_leaves d = drawn_is (without H free (spent_in table i free)) left_plain.plain (λ t. rw e (left_covers t)) d
+    pub server_leaves : {n : ℕ} {old new : List ℕ} → Drawn old new n (left_from C T demand free) → Wrote old new n (without H free (held_in table i free))
+    server_leaves d = drawn_is (without H free (held_in table i free)) left_plain.plain (λ t. rw e (left_covers t)) d
 
     -- and there is room for what is left
     pub leaves_room : {n : ℕ} {old new : List ℕ} → Drawn old new n (left_from C T demand free) → length (take n new) ≤ 16000

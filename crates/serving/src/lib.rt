@@ -1,20 +1,19 @@
-// One server's part: the ticks that it spends of a free curve, those in which a task of it runs, and what is given down to the server below.
+// One server's part: the ticks that it holds of a free curve, and those in which a task of it runs.
 ghost use Rattle.std.specs.Prelude.{◌≡◌, ◌≤◌, ◌<◌, length, take};
-ghost use Rattle.windows.specs.Windows.{add_up, fit};
+ghost use Rattle.windows.specs.Windows.{fit};
 ghost use Rattle.table.specs.Places.{Obeyed};
-ghost use Rattle.schedule.specs.Curves.{demand_of, spent_in, without};
-ghost use Rattle.buffers.specs.Parts.{PlainBelow, Curve, Wrote};
+ghost use Rattle.schedule.specs.Curves.{demand_of, held_in, without};
+ghost use Rattle.buffers.specs.Parts.{Curve, Wrote};
 ghost use Rattle.demands.specs.Walks.{TaskObeyed};
 ghost use Rattle.serving.specs.Wanted.{wanted_of};
 
 use buffers::{copy, put};
 use demands::releasing::demand;
 use demands::summing::sum_tasks;
-use spending::{Counts, spend};
+use holding::{Counts, hold};
 use table::{Kind, Table, Task};
-use walks::adding;
 
-// Writes what a server would spend: its tasks' summed demand, or the whole span if it is periodic.
+// Writes what a server would hold: its tasks' summed demand, or the whole span if it is periodic.
 fn wanted(table: Table, i: usize, sum: &mut [u32], part: &mut [u32], spare: &mut [u32]) -> usize
     requires { Obeyed table × (i < table.servers_n) × (16000 ≤ length sum.old) × (16000 ≤ length part.old) × (16000 ≤ length spare.old) }
     ensures { Wrote sum.old sum.new result (wanted_of table i)
@@ -29,32 +28,32 @@ fn wanted(table: Table, i: usize, sum: &mut [u32], part: &mut [u32], spare: &mut
     }
 }
 
-// Writes the ticks that a server spends of the free curve that the first `n` numbers of `free` are, and leaves there those that it does not.
-pub fn spend_server(
+// Writes the ticks that a server holds of the free curve that the first `n` numbers of `free` are, and leaves there those that it does not.
+pub fn hold_server(
     table: Table,
     i: usize,
     n: usize,
     free: &mut [u32],
     sum: &mut [u32],
     part: &mut [u32],
-    spent: &mut [u32],
+    held: &mut [u32],
     spare: &mut [u32],
 ) -> Counts
     requires { Obeyed table × (i < table.servers_n) × Curve free.old n table.span × (16000 ≤ length sum.old) × (16000 ≤ length part.old)
-        × (16000 ≤ length spent.old) × (16000 ≤ length spare.old) }
-    ensures { Wrote spent.old spent.new result.spent (spent_in table i (take n free.old))
-        × Wrote free.old free.new result.left (without table.span (take n free.old) (spent_in table i (take n free.old)))
+        × (16000 ≤ length held.old) × (16000 ≤ length spare.old) }
+    ensures { Wrote held.old held.new result.held (held_in table i (take n free.old))
+        × Wrote free.old free.new result.left (without table.span (take n free.old) (held_in table i (take n free.old)))
         × (length sum.new ≡ length sum.old) × (length part.new ≡ length part.old)
         × (length spare.new ≡ length spare.old) }
 {
     let server = table.servers[i];
     let m = wanted(table, i, sum, part, spare);
-    let counts = spend(
+    let counts = hold(
         server.capacity,
         server.period,
         &sum[..m],
         &free[..n],
-        spent,
+        held,
         spare,
     );
     let k = counts.left;
@@ -72,42 +71,28 @@ pub struct Shares {
     pub left: usize,
 }
 
-// Writes the ticks in which a task runs, of the ticks left to it that the first `n` numbers of `spent` are, and leaves there those in which it does not.
+// Writes the ticks in which a task runs, of the held ticks that the first `n` numbers of `held` are, and leaves there those in which it does not.
 pub fn share(
     task: Task,
     span: u32,
     n: usize,
-    spent: &mut [u32],
+    held: &mut [u32],
     part: &mut [u32],
     running: &mut [u32],
     spare: &mut [u32],
 ) -> Shares
-    requires { TaskObeyed task × (0 < span) × (span ≤ 16000) × Curve spent.old n span × (16000 ≤ length part.old) × (16000 ≤ length running.old)
+    requires { TaskObeyed task × (0 < span) × (span ≤ 16000) × Curve held.old n span × (16000 ≤ length part.old) × (16000 ≤ length running.old)
         × (16000 ≤ length spare.old) }
-    ensures { Wrote running.old running.new result.running (fit (demand_of span task) (take n spent.old)).served
-        × Wrote spent.old spent.new result.left (fit (demand_of span task) (take n spent.old)).left
+    ensures { Wrote running.old running.new result.running (fit (demand_of span task) (take n held.old)).served
+        × Wrote held.old held.new result.left (fit (demand_of span task) (take n held.old)).left
         × (length part.new ≡ length part.old) × (length spare.new ≡ length spare.old) }
 {
     let m = demand(task, span, part);
-    let counts = spend(ALL, ALL, &part[..m], &spent[..n], running, spare);
+    let counts = hold(ALL, ALL, &part[..m], &held[..n], running, spare);
     let left = counts.left;
-    copy(&spare[..left], spent);
+    copy(&spare[..left], held);
     Shares {
-        running: counts.spent,
+        running: counts.held,
         left,
     }
-}
-
-// Adds the ticks that a server's tasks leave to the free ticks that it did not spend, which the first `n` numbers of `free` are.
-pub fn give_down(n: usize, free: &mut [u32], unused: &[u32], spare: &mut [u32]) -> usize
-    requires { Curve free.old n 16000 × PlainBelow 16000 unused.now × (16000 ≤ length spare.old) }
-    ensures { Wrote free.old free.new result (add_up (take n free.old) unused.now)
-        × (length spare.new ≡ length spare.old) }
-{
-    if unused.len() == 0 {
-        return n;
-    }
-    let m = adding::write(&free[..n], unused, spare);
-    copy(&spare[..m], free);
-    m
 }

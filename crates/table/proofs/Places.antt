@@ -1,4 +1,4 @@
--- The first place that passes a test. Assumes nothing.
+-- The first place that passes a test, entries made anew one beside the other, and an entry that is one less. Assumes nothing.
 use Prim.Native.Nat.{ℕ, zero, suc, ◌+◌, ◌-◌, ◌≤◌, ◌<◌}
 use mathlib.Core.Path.{◌≡◌, refl, sym, ap, ◌∙◌}
 use mathlib.Core.Logic.{◌≢◌}
@@ -10,12 +10,6 @@ use lib.Dec.{eqb}
 use borrow.Author.Tests.{ne_eqb, eqb-true}
 use Rattle.basics.specs.Choice.{pick}
 use Rattle.table.specs.Places.{first_of, none_of}
-
--- tests that agree find the same place
-pub same_first : (p q : ℕ → Bool) (k i : ℕ) → ((u : ℕ) → u < i + k → p u ≡ q u) → first_of p k i ≡ first_of q k i
-unfolding first_of
-same_first p q zero i e = refl
-same_first p q (suc k) i e = rw (e i (omega arith), same_first p q k (suc i) (λ u h. e u (omega arith)))
 
 -- ---- a walk along the places
 
@@ -108,14 +102,6 @@ is_first p k i m f = go (first_of p k i) refl
             by (yes l) _ = absurd (true≢false (sym g.passes ∙ f.before n g.from l))
             by (no l) (yes k) = absurd (true≢false (sym f.passes ∙ g.before m f.from k))
             by (no l) (no k) = omega arith
-
--- its number is one of the k
-pub first_most : (p : ℕ → Bool) (k : ℕ) → first_of p k 0 ≤ k
-first_most p k = go (first_of p k 0) refl
-  where
-    go : (n : ℕ) → first_of p k 0 ≡ n → n ≤ k
-    go zero e = omega arith
-    go (suc m) e = omega (arith, (first_is p k 0 m e).below)
 
 -- ---- no place passes the test
 

@@ -13,11 +13,6 @@ server_at table i = get_or table.servers i no_server
 abbrev pub task_at : Table → ℕ → Task
 task_at table j = get_or table.tasks j no_task
 
--- the server of the task with a number; 0 for none
-abbrev pub server_of_task : Table → ℕ → ℕ
-server_of_task table zero = 0
-server_of_task table (suc j) = (task_at table j).server
-
 -- the number of the first place, of the k from i on, that passes a test; 0 if none does
 unfoldable pub first_of : (ℕ → Bool) → ℕ → ℕ → ℕ
 first_of p zero i = 0

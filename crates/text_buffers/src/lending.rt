@@ -111,7 +111,7 @@ pub fn lend(
     let mut free = fresh();
     let mut sum = free;
     let mut part = free;
-    let mut spent = free;
+    let mut held = free;
     let mut running = free;
     let mut spare = free;
     let said = match call {
@@ -120,7 +120,7 @@ pub fn lend(
             &mut free[..a],
             &mut sum[..b],
             &mut part[..c],
-            &mut spent[..d],
+            &mut held[..d],
             &mut running[..e],
             &mut spare[..f],
         )),
@@ -130,7 +130,7 @@ pub fn lend(
             &mut free[..a],
             &mut sum[..b],
             &mut part[..c],
-            &mut spent[..d],
+            &mut held[..d],
             &mut running[..e],
             &mut spare[..f],
         )),
@@ -139,7 +139,7 @@ pub fn lend(
         look(free, a),
         look(sum, b),
         look(part, c),
-        look(spent, d),
+        look(held, d),
         look(running, e),
         look(spare, f),
     ];

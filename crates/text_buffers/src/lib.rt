@@ -79,7 +79,7 @@ pub fn put_call(out: &mut [u8; 65536], n: usize, call: Call, text: &[u8], rooms:
         rooms.free,
         rooms.sum,
         rooms.part,
-        rooms.spent,
+        rooms.held,
         rooms.running,
         rooms.spare,
     );

@@ -6,7 +6,7 @@ use Rattle.text_lines.specs.declared.asking.Rooms.{Rooms}
 
 -- of no work buffer more than 16,008 numbers
 abbrev pub Lendable : Rooms → Type 0
-Lendable r = (r.free ≤ 16008) × ((r.sum ≤ 16008) × ((r.part ≤ 16008) × ((r.spent ≤ 16008) × ((r.running ≤ 16008) × (r.spare ≤ 16008)))))
+Lendable r = (r.free ≤ 16008) × ((r.sum ≤ 16008) × ((r.part ≤ 16008) × ((r.held ≤ 16008) × ((r.running ≤ 16008) × (r.spare ≤ 16008)))))
 
 -- so much of each work buffer, and a text that stands in its array
 abbrev pub Fits : Asked → Type 0

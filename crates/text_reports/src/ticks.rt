@@ -10,7 +10,7 @@ fn ask(text: &[u8], tick: u32) -> Who {
     let mut free = [0u32; 16_000];
     let mut sum = [0u32; 16_000];
     let mut part = [0u32; 16_000];
-    let mut spent = [0u32; 16_000];
+    let mut held = [0u32; 16_000];
     let mut running = [0u32; 16_000];
     let mut spare = [0u32; 16_000];
     who_at(
@@ -19,7 +19,7 @@ fn ask(text: &[u8], tick: u32) -> Who {
         &mut free,
         &mut sum,
         &mut part,
-        &mut spent,
+        &mut held,
         &mut running,
         &mut spare,
     )

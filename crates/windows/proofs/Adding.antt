@@ -10,7 +10,7 @@ use borrow.Author.Tests.{leb-true, leb-false}
 use Rattle.basics.specs.Choice.{pick}
 use Rattle.windows.specs.Windows.{inside, cover, size, end_of, is_plain, upto, waiting, done, always, add_up, ◌⊕◌}
 use Rattle.windows.specs.Walks.{place, merge, grow, grown}
-use Rattle.windows.proofs.Ticks.{inside_yes, inside_early, inside_late, inside_one, Apart, cover_after, cover_one, end_above, apart_plain, apart_same}
+use Rattle.windows.proofs.Ticks.{inside_yes, inside_early, inside_late, inside_one, Apart, cover_after, cover_one, end_above, apart_plain}
 use Rattle.windows.proofs.Counts.{upto-⊕, upto_inside, count_inside, count_all}
 use Rattle.windows.proofs.Queue.{none, smooth, smooth_one, smooth_absorbed, smooth_units, serves_done, waiting_count, done_quiet, done_over}
 use Rattle.windows.proofs.Runs.{runs_apart, runs_end, windows_cover, windows_only}
@@ -260,17 +260,3 @@ module _ (a b : List ℕ) (p : Apart 0 a) (q : Apart 0 b) where
   -- the sum is plain, if it ends in time
   pub add_plain : end_of (add_up a b) ≤ 1000000 → is_plain (add_up a b) ≡ true
   add_plain h = apart_plain 0 (add_up a b) add_apart h
-
-  -- adding up two curves that have no tick in common is their union
-  module _ (parted : (t : ℕ) → cover a t + cover b t ≤ 1) where
-    pub add_union : (t : ℕ) → cover (add_up a b) t ≡ cover a t + cover b t
-    add_union t = ap (λ (f : ℕ → ℕ). f t) (add_ticks ∙ smooth_units (cover a ⊕ cover b) parted)
-
-    -- and the only curve that is
-    pub union_only : (c : List ℕ) → Apart 0 c → ((t : ℕ) → cover c t ≡ cover a t + cover b t) → add_up a b ≡ c
-    union_only c r h = apart_same (add_up a b) c 0 add_apart r (λ t. add_union t ∙ sym (h t))
-
--- with nothing added a curve stays as it is
-pub add_none : (a : List ℕ) → Apart 0 a → add_up a [] ≡ a
-unfolding cover
-add_none a p = union_only a [] p tt (λ t. omega (arith, cover_one a 0 t p)) a p (λ t. omega arith)

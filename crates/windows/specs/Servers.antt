@@ -1,4 +1,4 @@
--- Document 01, 'Servers, one tick at a time', and request E3 of document 02: on which of the free ticks a server with a capacity and a period spends its budget.
+-- Document 01, 'Servers, one tick at a time': which of the free ticks a server with a capacity and a period holds.
 use Rattle.std.specs.Prelude.{ℕ, zero, suc, ◌+◌, ◌-◌, ◌%◌, min, eqb}
 use Rattle.basics.specs.Choice.{pick}
 use Rattle.windows.specs.Windows.{upto}
@@ -11,24 +11,23 @@ so_far T r t = upto r t - upto r (t - t % T)
 abbrev pub limited : ℕ → ℕ → (ℕ → ℕ) → (ℕ → ℕ) → ℕ → ℕ
 limited C T free r t = min (free t) (C - so_far T r t)
 
--- before a tick: the budget used so far in its period, and the work that waits
+-- before a tick: the ticks held so far in its period, and the work that waits
 pub record Before : Type 0 where
-  pub used : ℕ
+  pub spent : ℕ
   pub waits : ℕ
 
 -- x t units of work come at tick t, of which the server may do free t there, and C in a period of T ticks
 module _ (C T : ℕ) (x free : ℕ → ℕ) where
-  -- "each unit at the earliest free tick whose period has fewer than C held ticks so far"; a tick on which
-  -- budget goes is called spent since E3
-  abbrev pub spends_at : ℕ → Before → ℕ
-  spends_at t b = min (min (free t) (C - b.used)) (b.waits + x t)
+  -- "each unit at the earliest free tick whose period has fewer than C held ticks so far"
+  abbrev pub holds_at : ℕ → Before → ℕ
+  holds_at t b = min (min (free t) (C - b.spent)) (b.waits + x t)
 
   unfoldable pub before : ℕ → Before
-  before zero = record { used = 0; waits = 0 }
+  before zero = record { spent = 0; waits = 0 }
   before (suc t) =
       let b = before t in
-      record { used = pick (eqb (suc t % T) 0) 0 (b.used + spends_at t b); waits = (b.waits + x t) - spends_at t b }
+      record { spent = pick (eqb (suc t % T) 0) 0 (b.spent + holds_at t b); waits = (b.waits + x t) - holds_at t b }
 
-  -- what the server spends on tick t
-  unfoldable pub spent : ℕ → ℕ
-  spent t = spends_at t (before t)
+  -- what the server holds of tick t
+  unfoldable pub held : ℕ → ℕ
+  held t = holds_at t (before t)

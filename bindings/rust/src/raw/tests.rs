@@ -35,7 +35,7 @@ const UNTOUCHED: Targets = Targets {
 /// The number that the analysis of a text answers, and what it was handed afterwards.
 fn analysed(text: &[u8]) -> (u32, Targets) {
     let mut room = Room::new();
-    let [free, sum, part, spent, running, spare] = room.lend();
+    let [free, sum, part, held, running, spare] = room.lend();
     let mut targets = UNTOUCHED;
     let [servers_n, tasks_n] = &mut targets.counts;
     // SAFETY: each pointer and length is of one slice; the arrays have 16 and 64 entries; what is written is borrowed for this call alone.
@@ -49,8 +49,8 @@ fn analysed(text: &[u8]) -> (u32, Targets) {
             sum.len(),
             part.as_mut_ptr(),
             part.len(),
-            spent.as_mut_ptr(),
-            spent.len(),
+            held.as_mut_ptr(),
+            held.len(),
             running.as_mut_ptr(),
             running.len(),
             spare.as_mut_ptr(),
@@ -133,7 +133,7 @@ fn a_refused_step_gives_0_and_0() {
 /// The number, the line and the place that the call by tick answers, and holder and runner afterwards.
 fn told(text: &[u8], tick: u32) -> [u32; 5] {
     let mut room = Room::new();
-    let [free, sum, part, spent, running, spare] = room.lend();
+    let [free, sum, part, held, running, spare] = room.lend();
     let [mut line, mut place, mut holder, mut runner] = [BEFORE; 4];
     // SAFETY: each pointer and length is of one slice; what is written is borrowed for this call alone.
     let number = unsafe {
@@ -147,8 +147,8 @@ fn told(text: &[u8], tick: u32) -> [u32; 5] {
             sum.len(),
             part.as_mut_ptr(),
             part.len(),
-            spent.as_mut_ptr(),
-            spent.len(),
+            held.as_mut_ptr(),
+            held.len(),
             running.as_mut_ptr(),
             running.len(),
             spare.as_mut_ptr(),

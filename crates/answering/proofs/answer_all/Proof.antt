@@ -8,38 +8,41 @@ use lib.Seq.{length-take-le}
 use Rattle.table.specs.declared.Table.{Table}
 use Rattle.table.specs.Places.{Obeyed}
 use Rattle.table.proofs.Obeyed.{servers_most, span_some, span_most, server_period}
-use Rattle.schedule.specs.Curves.{spent_of, left_below}
+use Rattle.schedule.specs.Curves.{held_of}
 use Rattle.buffers.specs.Parts.{Curve, Wrote}
 use Rattle.serving.proofs.ServerTicks.{empty_curve}
-use Rattle.answering.proofs.FreeCurves.{freed_starts, own_place, freed_curve, freed_spent, unspent_curve, freed_next, unused_plain}
+use Rattle.answering.proofs.FreeCurves.{freed_starts, own_place, freed_curve, freed_held, freed_next}
 use Rattle.answering.proofs.Answering.{Answered, answered_starts, answered_next, answered_all}
 use Rattle.answering.proofs.answer_all.Statement.{statement}
 use Rattle.answering.proofs.answer_all.Tie as tie
 
 abbrev invariant-loop : tie.invariant-loop
-invariant-loop tick free₀ sum₀ part₀ spent₀ running₀ spare₀ table servers₀ tasks₀ count span n₀ i₀ free sum part spent running spare servers tasks n i =
-    Answered table tick free₀ free n i servers tasks × (length sum ≡ length sum₀) × (length part ≡ length part₀) × (length spent ≡ length spent₀)
+invariant-loop tick free₀ sum₀ part₀ held₀ running₀ spare₀ table servers₀ tasks₀ count span n₀ i₀ free sum part held running spare servers tasks n i =
+    Answered table tick free₀ free n i servers tasks × (length sum ≡ length sum₀) × (length part ≡ length part₀) × (length held ≡ length held₀)
     × (length running ≡ length running₀) × (length spare ≡ length spare₀)
 
 abbrev decreases-loop : tie.decreases-loop
-decreases-loop tick free₀ sum₀ part₀ spent₀ running₀ spare₀ table servers₀ tasks₀ count span n₀ i₀ free sum part spent running spare servers tasks n i = count - i
+decreases-loop tick free₀ sum₀ part₀ held₀ running₀ spare₀ table servers₀ tasks₀ count span n₀ i₀ free sum part held running spare servers tasks n i = count - i
 
--- places further back: the start from in front of the first free curve and from the loop, the turn from behind the ticks that the server spends, these from
--- behind its tasks, and these from the end of the turn
+-- places further back: the start from in front of the first free curve and from the loop, the turn from behind the server's held ticks, these from in
+-- front of the test of the tick and from behind it
 abbrev begun : tie.After-put-arg invariant-loop decreases-loop → tie.Start invariant-loop decreases-loop
 begun c = c.before.before.before.before.before.before.before.before.before.before
 
 abbrev start : tie.At-loop invariant-loop decreases-loop → tie.Start invariant-loop decreases-loop
 start c = begun c.before.before.before.before
 
-abbrev turn : tie.After-spend-server invariant-loop decreases-loop → tie.In-loop invariant-loop decreases-loop
+abbrev turn : tie.After-hold-server invariant-loop decreases-loop → tie.In-loop invariant-loop decreases-loop
 turn c = c.before.before.before.before.before.before.before.before.before
 
-abbrev spending : tie.After-answer-tasks invariant-loop decreases-loop → tie.After-spend-server invariant-loop decreases-loop
-spending c = c.before.before.before.before.before.before.before.before.before.before.before.before.before.before.before
+abbrev behind-held : tie.After-slice-known12 invariant-loop decreases-loop → tie.After-hold-server invariant-loop decreases-loop
+behind-held c = c.before.before.before.before.before.before.before.before.before.before
 
-abbrev sharing : tie.After-give-down invariant-loop decreases-loop → tie.After-answer-tasks invariant-loop decreases-loop
-sharing c = c.before.before.before.before.before.before.before.before.before.before.before.before.before
+abbrev holding : tie.After-covers invariant-loop decreases-loop → tie.After-hold-server invariant-loop decreases-loop
+holding c = behind-held c.before.before
+
+abbrev covering : tie.After-answer-tasks invariant-loop decreases-loop → tie.After-covers invariant-loop decreases-loop
+covering c = c.before.before.before.before.before
 
 -- the table, at each turn
 abbrev table : tie.At-loop invariant-loop decreases-loop → Table
@@ -94,47 +97,57 @@ answer-server-requires c κs =
     let k = c.before.before.before in
     (server_period (table k) (ok k) k.loop.i c.before.before.loop-test.true, span_most (table k) (ok k), (curve k).curve.plain)
 
-mul-servers : tie.Need-overflow-mul-servers invariant-loop decreases-loop
-mul-servers c = let t = c.before.before.before in search (rules, few t.before, t.loop-test.true, t.before.loop.invariant.0.servers_noted.all)
+mul-answer : tie.Need-overflow-mul-answer invariant-loop decreases-loop
+mul-answer c = let t = c.before.before.before in search (rules, few t.before, t.loop-test.true, t.before.loop.invariant.0.servers_noted.all)
 
-array-set-from-servers : tie.Need-array-set-from-servers invariant-loop decreases-loop
-array-set-from-servers c = let t = c.before.before.before in search (rules, few t.before, t.loop-test.true, t.before.loop.invariant.0.servers_noted.all)
+element-set-from-answer : tie.Need-element-set-from-answer invariant-loop decreases-loop
+element-set-from-answer c = let t = c.before.before.before in search (rules, few t.before, t.loop-test.true, t.before.loop.invariant.0.servers_noted.all)
 
-spend-server-requires : tie.Need-spend-server-requires invariant-loop decreases-loop
-spend-server-requires c κs =
+hold-server-requires : tie.Need-hold-server-requires invariant-loop decreases-loop
+hold-server-requires c κs =
     let t = c.before.before.before.before.before.before.before.before in
     let k = t.before in
     let v = k.loop.invariant in
     let p = (start k).requires in
     (ok k, t.loop-test.true, curve k, omega (arith, p.2, v.1), omega (arith, p.3, v.2), omega (arith, p.4, v.3), omega (arith, p.6, v.5))
 
--- the ticks that the server spends, once they are written
-spent-so : (c : tie.After-spend-server invariant-loop decreases-loop)
+-- the server's held ticks, once they are written
+held-so : (c : tie.After-hold-server invariant-loop decreases-loop)
     → let k = (turn c).before in
-    Wrote k.loop.spent c.spend-server.new.1.1.1.1.1.1.0 c.spend-server.result.spent (spent_of (table k) k.loop.i)
-spent-so c =
+    Wrote k.loop.held c.hold-server.new.1.1.1.1.1.1.0 c.hold-server.result.held (held_of (table k) k.loop.i)
+held-so c =
     let k = (turn c).before in
-    freed_spent (table k) (ok k) _ k.loop.free k.loop.n k.loop.i k.loop.inv.0.freed c.spend-server.ensures.0
+    freed_held (table k) (ok k) _ k.loop.free k.loop.n k.loop.i k.loop.inv.0.freed c.hold-server.ensures.0
+
+slice-reshare-prefix-covers : tie.Need-slice-reshare-prefix-covers invariant-loop decreases-loop
+slice-reshare-prefix-covers c = (behind-held c).hold-server.ensures.0.count
+
+slice-aggregate-covers : tie.Need-slice-aggregate-covers invariant-loop decreases-loop
+slice-aggregate-covers c = sym (length-take-le _ _ (behind-held c.before).hold-server.ensures.0.count)
+
+covers-requires : tie.Need-covers-requires invariant-loop decreases-loop
+covers-requires c κs = search rules
+
+element-write-servers : tie.Need-element-write-servers invariant-loop decreases-loop
+element-write-servers c = let t = turn (holding c) in search (rules, few t.before, t.loop-test.taken, t.before.loop.inv.0.servers_noted.marks)
 
 cast-number : tie.Need-overflow-cast-number invariant-loop decreases-loop
-cast-number c = let t = turn c.before.before.before.before.before.before.before.before.before.before in search (rules, few t.before, t.loop-test.taken)
+cast-number c = let t = turn (holding c) in search (rules, few t.before, t.loop-test.taken)
 
 add-number : tie.Need-overflow-add-number invariant-loop decreases-loop
-add-number c = let t = turn c.before.before.before.before.before.before.before.before.before.before in search (rules, few t.before, t.loop-test.taken)
+add-number c = let t = turn (holding c) in search (rules, few t.before, t.loop-test.taken)
 
 answer-tasks-requires : tie.Need-answer-tasks-requires invariant-loop decreases-loop
 answer-tasks-requires c κs =
-    let h = c.before.before.before.before.before.before.before.before.before.before.before.before.before.before in
+    let h = holding c.before.before.before.before in
     let t = turn h in
     let k = t.before in
     let v = k.loop.inv in
     let p = (start k).pre in
-    let e = h.spend-server.ensures in
-    rw (own_place k.loop.i) (
+    let e = h.hold-server.ensures in (
       ok k,
+      own_place (table k) k.loop.i _ t.loop-test.taken (held-so h).front,
       omega arith,
-      t.loop-test.taken,
-      (spent-so h).front,
       e.0.count,
       omega (arith, p.4, v.3, e.0.same),
       omega (arith, p.3, v.2, e.3),
@@ -143,57 +156,32 @@ answer-tasks-requires c κs =
       v.0.tasks_noted,
     )
 
--- the ticks that its tasks leave, once they are written
-left_so : (c : tie.After-answer-tasks invariant-loop decreases-loop)
-    → let k = (turn (spending c)).before in
-    Wrote (spending c).spend-server.new.1.1.1.1.1.1.0 c.answer-tasks.new.1.1.1.1.0 c.answer-tasks.result.left
-    (left_below (table k) k.loop.i (table k).tasks_n)
-left_so c = rw (own_place (turn (spending c)).before.loop.i) at c.answer-tasks.ensures.1
-
-slice-reshare-prefix-give-down : tie.Need-slice-reshare-prefix-give-down invariant-loop decreases-loop
-slice-reshare-prefix-give-down c = c.before.before.before.before.before.before.before.before.before.before.answer-tasks.ensures.1.count
-
-slice-aggregate-give-down : tie.Need-slice-aggregate-give-down invariant-loop decreases-loop
-slice-aggregate-give-down c = sym (length-take-le _ _ c.before.before.before.before.before.before.before.before.before.before.before.answer-tasks.ensures.1.count)
-
-give-down-requires : tie.Need-give-down-requires invariant-loop decreases-loop
-give-down-requires c κs =
-    let w = c.before.before.before.before.before.before.before.before.before.before.before.before in
-    let h = spending w in
-    let t = turn h in
-    let k = t.before in
-    let v = k.loop.inv in
-    let p = (start k).pre in (
-      unspent_curve (table k) (ok k) _ k.loop.free k.loop.n k.loop.i v.0.freed h.spend-server.ensures.1 t.loop-test.taken
-          (omega (arith, p.1, k.before.before.before.put.ensures.same)),
-      unused_plain (table k) (ok k) k.loop.i t.loop-test.taken (left_so w),
-      omega (arith, p.6, v.5, h.spend-server.ensures.4, w.answer-tasks.ensures.4),
-    )
-
 add-i : tie.Need-overflow-add-i invariant-loop decreases-loop
-add-i c = let t = turn (spending (sharing c.before.before.before.before)) in search (rules, few t.before, t.loop-test.taken)
+add-i c =
+    let t = turn (holding (covering c.before.before.before.before.before.before.before.before)) in
+    search (rules, few t.before, t.loop-test.taken)
 
 loop-less : tie.Need-loop-smaller invariant-loop decreases-loop
-loop-less c = let t = turn (spending (sharing c.before.before.before.before)) in search (rules, t.loop-test.taken)
+loop-less c =
+    let t = turn (holding (covering c.before.before.before.before.before.before.before.before)) in
+    search (rules, t.loop-test.taken)
 
 loop-again : tie.Need-loop-preserved invariant-loop decreases-loop
 loop-again c =
-    let g = c.before.before.before.before in
-    let w = sharing g in
-    let h = spending w in
+    let tasks = c.before.before.before.before.before.before.before.before in
+    let h = holding (covering tasks) in
     let t = turn h in
     let k = t.before in
     let v = k.loop.inv in
-    let e = h.spend-server.ensures in
-    let a = w.answer-tasks.ensures in
-    let d = g.give-down.ensures in (
-      answered_next (table k) (ok k) v.0 t.loop-test.taken _ h.before.before.before.before.before.before.answer-server.ensures
-          (freed_next (table k) (ok k) _ k.loop.free k.loop.n k.loop.i v.0.freed e.1 t.loop-test.taken (left_so w).front d.0) a.0,
+    let e = h.hold-server.ensures in
+    let a = tasks.answer-tasks.ensures in (
+      answered_next (table k) (ok k) v.0 t.loop-test.taken _ h.before.before.before.before.before.before.answer-server.ensures (held-so h).front _ (covering tasks).covers.ensures
+          (freed_next (table k) (ok k) _ k.loop.free k.loop.n k.loop.i v.0.freed t.loop-test.taken e.1) a.0,
       e.2 ∙ v.1,
       a.2 ∙ e.3 ∙ v.2,
-      a.1.same ∙ e.0.same ∙ v.3,
+      a.1 ∙ e.0.same ∙ v.3,
       a.3 ∙ v.4,
-      d.1 ∙ a.4 ∙ e.4 ∙ v.5,
+      a.4 ∙ e.4 ∙ v.5,
     )
 
 same_length : tie.Need-same-length invariant-loop decreases-loop
@@ -233,15 +221,16 @@ answer-all-spec =
     slice-reshare-prefix-answer-server
     slice-aggregate-answer-server
     answer-server-requires
-    mul-servers
-    array-set-from-servers
-    spend-server-requires
+    mul-answer
+    element-set-from-answer
+    hold-server-requires
+    slice-reshare-prefix-covers
+    slice-aggregate-covers
+    covers-requires
+    element-write-servers
     cast-number
     add-number
     answer-tasks-requires
-    slice-reshare-prefix-give-down
-    slice-aggregate-give-down
-    give-down-requires
     add-i
     loop-less
     loop-again

@@ -36,7 +36,7 @@ returns c =
         noted = λ z. absurd (refused z);
         empty = λ z. c.no-notes.ensures;
       },
-      all_kept _ a.free.now a.sum.now a.part.now a.spent.now a.running.now a.spare.now (omega (arith, refused)),
+      all_kept _ a.free.now a.sum.now a.part.now a.held.now a.running.now a.spare.now (omega (arith, refused)),
     )
 
 answer-all-requires : tie.Need-answer-all-requires
@@ -45,7 +45,7 @@ answer-all-requires c κs =
     let o = opened b in
     let a = (start o).args in
     let r = ready_obeyed a.text.now a.tick _ _ o.open-text.ensures b.if1.false in
-    let e = all_enough (length a.free.now) (length a.sum.now) (length a.part.now) (length a.spent.now) (length a.running.now) (length a.spare.now) r.1 in
+    let e = all_enough (length a.free.now) (length a.sum.now) (length a.part.now) (length a.held.now) (length a.running.now) (length a.spare.now) r.1 in
     (r.0, e.0, e.1, e.2, e.3, e.4, e.5)
 
 clear-all-requires : tie.Need-clear-all-requires
@@ -92,7 +92,7 @@ returns-2 c =
         empty = λ q. absurd (omega (arith, z));
       },
       by_number (sym z)
-          (all_cleared a.free.now a.sum.now a.part.now a.spent.now a.running.now a.spare.now
+          (all_cleared a.free.now a.sum.now a.part.now a.held.now a.running.now a.spare.now
           (k.1, k.2, k.3, k.4, k.5, k.6) cleared.clear-all.ensures),
     )
 

@@ -9,7 +9,7 @@ use Rattle.serving.proofs.share.Statement.{statement}
 use Rattle.serving.proofs.share.Tie as tie
 
 -- from behind the walk: where the demand was written, and the start
-abbrev demanded : tie.After-spend → tie.After-demand
+abbrev demanded : tie.After-hold → tie.After-demand
 demanded c = c.before.before.before.before.before.before.before
 
 abbrev start : tie.After-demand → tie.Start
@@ -18,20 +18,20 @@ start c = c.before.before.before.before.before.before
 demand-requires : tie.Need-demand-requires
 demand-requires c κs = search rules
 
-slice-reshare-prefix-spend : tie.Need-slice-reshare-prefix-spend
-slice-reshare-prefix-spend c = search rules
+slice-reshare-prefix-hold : tie.Need-slice-reshare-prefix-hold
+slice-reshare-prefix-hold c = search rules
 
-slice-aggregate-spend : tie.Need-slice-aggregate-spend
-slice-aggregate-spend c = sym (length-take-le _ _ c.before.before.before.demand.ensures.count)
+slice-aggregate-hold : tie.Need-slice-aggregate-hold
+slice-aggregate-hold c = sym (length-take-le _ _ c.before.before.before.demand.ensures.count)
 
-slice-reshare-prefix-spend-2 : tie.Need-slice-reshare-prefix-spend-2
-slice-reshare-prefix-spend-2 c = search rules
+slice-reshare-prefix-hold-2 : tie.Need-slice-reshare-prefix-hold-2
+slice-reshare-prefix-hold-2 c = search rules
 
-slice-aggregate-spend-2 : tie.Need-slice-aggregate-spend-2
-slice-aggregate-spend-2 c = sym (length-take-le _ _ (start c.before.before.before.before).requires.3.count)
+slice-aggregate-hold-2 : tie.Need-slice-aggregate-hold-2
+slice-aggregate-hold-2 c = sym (length-take-le _ _ (start c.before.before.before.before).requires.3.count)
 
-spend-requires : tie.Need-spend-requires
-spend-requires c κs =
+hold-requires : tie.Need-hold-requires
+hold-requires c κs =
     let d = c.before.before.before.before.before.before in
     let p = (start d).requires in
     let w = d.demand.ensures in
@@ -41,13 +41,13 @@ slice-reshare-prefix-copy : tie.Need-slice-reshare-prefix-copy
 slice-reshare-prefix-copy c = search rules
 
 slice-aggregate-copy : tie.Need-slice-aggregate-copy
-slice-aggregate-copy c = sym (length-take-le _ _ c.before.before.before.before.before.spend.ensures.1.count)
+slice-aggregate-copy c = sym (length-take-le _ _ c.before.before.before.before.before.hold.ensures.1.count)
 
 copy-requires : tie.Need-copy-requires
 copy-requires c κs =
     let h = c.before.before.before.before.before.before in
     let p = (start (demanded h)).requires in
-    share_room p.0 p.2 (demanded h).demand.ensures p.3 h.spend.ensures.1
+    share_room p.0 p.2 (demanded h).demand.ensures p.3 h.hold.ensures.1
 
 same_length : tie.Need-same-length
 same_length c = search rules
@@ -66,10 +66,10 @@ returns c =
     let h = c.before.before.before.before.before.before.before.before.before in
     let p = (start (demanded h)).requires in
     let w = (demanded h).demand.ensures in (
-      share_serves p.0 p.2 w p.3 h.spend.ensures.0,
-      written_copied (share_leaves p.0 p.2 w p.3 h.spend.ensures.1) c.before.before.copy.ensures,
+      share_serves p.0 p.2 w p.3 h.hold.ensures.0,
+      written_copied (share_leaves p.0 p.2 w p.3 h.hold.ensures.1) c.before.before.copy.ensures,
       w.same,
-      h.spend.ensures.1.same,
+      h.hold.ensures.1.same,
     )
 
 pub share-spec : {M : Type 1} → statement M
@@ -77,11 +77,11 @@ share-spec =
     tie.close
     (tie.spec
     demand-requires
-    slice-reshare-prefix-spend
-    slice-aggregate-spend
-    slice-reshare-prefix-spend-2
-    slice-aggregate-spend-2
-    spend-requires
+    slice-reshare-prefix-hold
+    slice-aggregate-hold
+    slice-reshare-prefix-hold-2
+    slice-aggregate-hold-2
+    hold-requires
     slice-reshare-prefix-copy
     slice-aggregate-copy
     copy-requires

@@ -21,7 +21,6 @@ pub fn every_text() -> Vec<Vec<u8>> {
     texts.extend(every_count());
     texts.extend(every_length());
     texts.extend(every_small_table());
-    texts.extend(every_idle_table());
     texts
 }
 
@@ -166,17 +165,4 @@ fn every_small_task() -> Vec<String> {
         }
     }
     tasks
-}
-
-/// Tables in which a periodic server has nothing to do: three servers of several kinds, with one job each for the first two, at every two instants.
-fn every_idle_table() -> Vec<Vec<u8>> {
-    let mut servers = Vec::new();
-    for first in ["periodic 1 3", "periodic 2 4", "periodic 5 5"] {
-        for second in ["periodic 1 2", "deferrable 1 2", "periodic 2 3"] {
-            servers.extend(["deferrable 2 3", "periodic 1 2"].map(|third| format!("server {first}/server {second}/server {third}/")));
-        }
-    }
-    let jobs = (0..=6).flat_map(|first| (0..=6).map(move |second| format!("once 1 2 {first} 4/once 2 1 {second} 2/")));
-    let jobs: Vec<String> = jobs.collect();
-    servers.iter().flat_map(|servers| jobs.iter().map(move |jobs| tabbed(&format!("span 7/{servers}{jobs}every 3 1 0 2 -/")))).collect()
 }

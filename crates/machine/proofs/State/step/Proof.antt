@@ -6,10 +6,10 @@ use borrow.Author.Tests.{not_true, not-false}
 use lib.ListN.{length}
 use Rattle.table.proofs.Entries.{length_mapped}
 use Rattle.machine.specs.declared.State.{State}
-use Rattle.machine.specs.Machine.{releases, holder_of, runner_of, spends, runs, ready, accepts, step_of}
+use Rattle.machine.specs.Machine.{releases, ready, runner_of, runs, spends, accepts, step_of}
 use Rattle.table.specs.Places.{Obeyed}
-use Rattle.table.proofs.Obeyed.{obeyed_of, servers_most, span_most}
-use Rattle.machine.proofs.Stepping.{accepted_rules, accepted_tick, accepted_work, taker_is, holder_most, first_runs, runner_most, runner_has, step_goes}
+use Rattle.table.proofs.Obeyed.{obeyed_of, span_most}
+use Rattle.machine.proofs.Stepping.{accepted_rules, accepted_tick, accepted_work, holder_most, holder_has, first_runs, runner_most, runner_has, step_goes}
 use Rattle.machine.proofs.State.step.Statement.{statement}
 use Rattle.machine.proofs.State.step.Tie as tie
 
@@ -44,26 +44,23 @@ first-tasks-requires : tie.Need-first-tasks-requires
 first-tasks-requires c κs = ok c.before.before
 
 first-server-requires : tie.Need-first-server-requires
-first-server-requires c κs = servers_most _ (ok c.before.before.before)
-
--- the server found is the one that takes the tick
-holder-so : (c : tie.After-first-server) → c.first-server.result ≡ holder_of c.before.before.before.before.before.before.args.table c.before.before.release.result
-holder-so c =
-    c.first-server.ensures
-    ∙ taker_is c.before.before.before.before.before.before.args.table c.before.before.release.result c.before.first-tasks.result c.before.first-tasks.ensures (servers_most _ (ok c.before.before.before.before))
+first-server-requires c κs = (ok c.before.before.before, c.first-tasks.ensures)
 
 first-task-requires : tie.Need-first-task-requires
-first-task-requires c κs = holder_most _ (ok c.before.before.before.before) c.before.before.release.result _ (holder-so c)
+first-task-requires c κs = holder_most _ (ok c.before.before.before.before) c.before.before.release.result _ c.first-server.ensures
 
 spend-requires : tie.Need-spend-requires
-spend-requires c κs = (ok c.before.before.before.before.before, c.before.before.first-tasks.ensures)
+spend-requires c κs = (
+  holder_most _ (ok c.before.before.before.before.before) c.before.before.before.release.result _ c.before.first-server.ensures,
+  holder_has _ (ok c.before.before.before.before.before) c.before.before.before.release.result _ c.before.first-server.ensures,
+)
 
 -- the runner, as the definition has it
 runner-so : (c : tie.After-first-task) → c.first-task.result ≡ runner_of c.before.before.before.before.before.before.before.args.table c.before.before.before.release.result c.before.first-server.result
 runner-so c =
     c.first-task.ensures
     ∙ first_runs _ (ok c.before.before.before.before.before) c.before.before.before.release.result _ _ c.before.before.first-tasks.ensures
-    (holder_most _ (ok c.before.before.before.before.before) c.before.before.before.release.result _ (holder-so c.before))
+    (holder_most _ (ok c.before.before.before.before.before) c.before.before.before.release.result _ c.before.first-server.ensures)
 
 run-requires : tie.Need-run-requires
 run-requires c κs =
@@ -78,7 +75,7 @@ ready-so : (c : tie.After-release) → c.release.result ≡ ready c.before.befor
 unfolding ready
 ready-so c = c.release.ensures ∙ ap (releases c.before.before.before.before.args.table) c.before.refill.ensures
 
-ran-so : (c : tie.After-run) → c.run.result ≡ runs c.before.before.first-task.result (spends c.before.before.before.before.before.before.before.before.before.args.table c.before.before.before.first-server.result c.before.before.before.before.before.release.result)
+ran-so : (c : tie.After-run) → c.run.result ≡ runs c.before.before.first-task.result (spends c.before.before.before.first-server.result c.before.before.before.before.before.release.result)
 ran-so c = c.run.ensures ∙ ap (runs c.before.before.first-task.result) c.before.spend.ensures
 
 tick-so : (c : tie.After-run) → c.run.result.tick ≡ c.before.before.before.before.before.before.before.before.before.args.self.tick
@@ -99,7 +96,7 @@ returns-2 d =
     let r = c.before.before.before.before.before.before in
     rw d.no-refusal.ensures
     (step_goes c.before.before.before.before.before.before.before.before.before.before.args.table c.before.before.before.before.before.before.before.before.before.before.args.self c.before.run.result r.release.result c.before.before.before.before.first-server.result c.before.before.before.first-task.result
-    (so c.before.before.before.before.before.before.before.before) (ready-so r) (holder-so c.before.before.before.before) (runner-so c.before.before.before) (ran-so c.before))
+    (so c.before.before.before.before.before.before.before.before) (ready-so r) c.before.before.before.before.first-server.ensures (runner-so c.before.before.before) (ran-so c.before))
 
 pub step_spec : {M : Type 1} → statement M
 step_spec =

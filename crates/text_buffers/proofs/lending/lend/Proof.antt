@@ -29,11 +29,11 @@ array-borrow-prefix-part c = search rules
 slice-aggregate-analyse-3 : tie.Need-slice-aggregate-analyse-3
 slice-aggregate-analyse-3 c = sym (length-take-le _ _ (array-borrow-prefix-part c.before))
 
-array-borrow-prefix-spent : tie.Need-array-borrow-prefix-spent
-array-borrow-prefix-spent c = search rules
+array-borrow-prefix-held : tie.Need-array-borrow-prefix-held
+array-borrow-prefix-held c = search rules
 
 slice-aggregate-analyse-4 : tie.Need-slice-aggregate-analyse-4
-slice-aggregate-analyse-4 c = sym (length-take-le _ _ (array-borrow-prefix-spent c.before))
+slice-aggregate-analyse-4 c = sym (length-take-le _ _ (array-borrow-prefix-held c.before))
 
 array-borrow-prefix-running : tie.Need-array-borrow-prefix-running
 array-borrow-prefix-running c = search rules
@@ -74,11 +74,11 @@ array-borrow-prefix-part-2 c = search rules
 slice-aggregate-who-at-3 : tie.Need-slice-aggregate-who-at-3
 slice-aggregate-who-at-3 c = sym (length-take-le _ _ (array-borrow-prefix-part-2 c.before))
 
-array-borrow-prefix-spent-2 : tie.Need-array-borrow-prefix-spent-2
-array-borrow-prefix-spent-2 c = search rules
+array-borrow-prefix-held-2 : tie.Need-array-borrow-prefix-held-2
+array-borrow-prefix-held-2 c = search rules
 
 slice-aggregate-who-at-4 : tie.Need-slice-aggregate-who-at-4
-slice-aggregate-who-at-4 c = sym (length-take-le _ _ (array-borrow-prefix-spent-2 c.before))
+slice-aggregate-who-at-4 c = sym (length-take-le _ _ (array-borrow-prefix-held-2 c.before))
 
 array-borrow-prefix-running-2 : tie.Need-array-borrow-prefix-running-2
 array-borrow-prefix-running-2 c = search rules
@@ -131,7 +131,7 @@ lend_spec =
     slice-aggregate-analyse-2
     array-borrow-prefix-part
     slice-aggregate-analyse-3
-    array-borrow-prefix-spent
+    array-borrow-prefix-held
     slice-aggregate-analyse-4
     array-borrow-prefix-running
     slice-aggregate-analyse-5
@@ -146,7 +146,7 @@ lend_spec =
     slice-aggregate-who-at-2
     array-borrow-prefix-part-2
     slice-aggregate-who-at-3
-    array-borrow-prefix-spent-2
+    array-borrow-prefix-held-2
     slice-aggregate-who-at-4
     array-borrow-prefix-running-2
     slice-aggregate-who-at-5

@@ -1,0 +1,82 @@
+-- The two buffers of the walk over a server's free ticks: what is held and what is left of the ticks decided so far. Assumes nothing.
+use Prim.Native.Nat.{ℕ, ◌+◌, ◌-◌, ◌≤◌, ◌<◌}
+use mathlib.Core.Path.{◌≡◌}
+use mathlib.Core.List.{List}
+use mathlib.Core.Bool.{true, false}
+use native.Mathlib.Omega.{arith}
+use lib.ListN.{length, get_or, take}
+use Rattle.windows.specs.Windows.{cover}
+use Rattle.holding.specs.declared.Place.{Place}
+use Rattle.holding.specs.declared.Piece.{Piece}
+use Rattle.buffers.specs.Parts.{Curve, Drawn, with_window}
+use Rattle.holding.specs.Pieces.{held_from, left_from, window_behind, Leaves, Holds, Cuts, Served, Skipped}
+use Rattle.holding.proofs.HeldBlocks.{held_not_free}
+use Rattle.holding.proofs.DrawnSoFar.{DrawnBelow, drawn_none, drawn_curve, drawn_on, drawn_window, drawn_all}
+use Rattle.holding.proofs.HoldTurns.{Given, Stands, Turn, turn_free, turn_idle, turn_left, ticks_held, stands_skipped, stands_served}
+
+pub record Draws (C T : ℕ) (demand free held₀ left₀ held left : List ℕ) (n m at : ℕ) : Type 0 where
+  pub in_held : DrawnBelow held₀ held n (held_from C T demand free) at
+  pub in_left : DrawnBelow left₀ left m (left_from C T demand free) at
+
+pub draws_none : (C T : ℕ) (demand free held left : List ℕ) → Draws C T demand free held left held left 0 0 0
+draws_none C T demand free held left = record { in_held = drawn_none held (held_from C T demand free); in_left = drawn_none left (left_from C T demand free) }
+
+-- there is room for a piece in either buffer
+pub draws_room : {C T : ℕ} {demand free old new : List ℕ} {from i n s : ℕ} {w : Place} {piece : Piece} {g : ℕ → ℕ} → Turn C T demand free from w i → w.at ≡ s
+    → Cuts demand w (get_or free (i + 1) 0) piece → DrawnBelow old new n g from → 16000 ≤ length old → Curve new n s × (s < piece.stop) × (piece.stop ≤ 16000)
+draws_room u e c d r = (drawn_curve d r (omega (arith, u.on)), omega (arith, c.some), omega (arith, c.within, u.most))
+
+-- a turn brings the walk nearer to the last tick
+pub turn_less : {C T : ℕ} {demand free : List ℕ} {from i to : ℕ} {w : Place} {piece : Piece} → Turn C T demand free from w i → Cuts demand w (get_or free (i + 1) 0) piece
+    → to ≡ piece.stop → 16000 - to < 16000 - from
+turn_less u c e = omega (arith, c.some, c.within, u.most, u.on)
+
+module _ {C T : ℕ} {demand free : List ℕ} {from : ℕ} {w : Place} {i : ℕ} (u : Turn C T demand free from w i) where
+  -- before the piece nothing is free
+  quiet_left : (t : ℕ) → from ≤ t → t < w.at → left_from C T demand free t ≡ 0
+  quiet_left t k l = omega (arith, u.quiet t k l)
+
+  draws_held : {held₀ left₀ held left out : List ℕ} {n m k stop : ℕ} → Draws C T demand free held₀ left₀ held left n m from → stop ≤ get_or free (i + 1) 0
+      → Holds demand w stop → Drawn held out k (with_window (take n held) w.at stop) → Draws C T demand free held₀ left₀ out left k m stop
+  draws_held {stop = stop} d l q p =
+      let one = ticks_held u stop l q in
+      let on = drawn_on d.in_left u.on quiet_left in
+      record {
+        in_held = drawn_window d.in_held u.on q.some (turn_idle u) one p;
+        in_left = drawn_on on (omega (arith, q.some)) (λ t a b. omega (arith, turn_free u stop l t a b, one t a b));
+      }
+
+  draws_left : {held₀ left₀ held left out : List ℕ} {n m k stop : ℕ} → Draws C T demand free held₀ left₀ held left n m from → w.at < stop → stop ≤ get_or free (i + 1) 0
+      → Leaves demand w stop → Drawn left out k (with_window (take m left) w.at stop) → Draws C T demand free held₀ left₀ held out n k stop
+  draws_left {stop = stop} d k l q p =
+      let none = turn_left u stop q in
+      let on = drawn_on d.in_held u.on (turn_idle u) in
+      record {
+        in_held = drawn_on on (omega arith) none;
+        in_left = drawn_window d.in_left u.on k quiet_left (λ t a b. omega (arith, turn_free u stop l t a b, none t a b)) p;
+      }
+
+  -- ---- a whole turn
+
+  pub turn_held : {held₀ left₀ held left out : List ℕ} {n m k s : ℕ} {piece : Piece} {r : Place} → w.at ≡ s → Draws C T demand free held₀ left₀ held left n m from
+      → Cuts demand w (get_or free (i + 1) 0) piece → piece.held ≡ true → Drawn held out k (with_window (take n held) s piece.stop) → Served demand w piece.stop r
+      → Stands C T demand free r (window_behind free i piece.stop) × Draws C T demand free held₀ left₀ out left k m r.at
+  turn_held e d c y p v =
+      (stands_served u c.within (c.holds y) v, rw v.there (draws_held d c.within (c.holds y) (rw e p)))
+
+  pub turn_skipped : {held₀ left₀ held left out : List ℕ} {n m k s : ℕ} {piece : Piece} {r : Place} → w.at ≡ s → Draws C T demand free held₀ left₀ held left n m from
+      → Cuts demand w (get_or free (i + 1) 0) piece → piece.held ≡ false → Drawn left out k (with_window (take m left) s piece.stop) → Skipped w piece.stop r
+      → Stands C T demand free r (window_behind free i piece.stop) × Draws C T demand free held₀ left₀ held out n k r.at
+  turn_skipped e d c y p v =
+      (stands_skipped u c.some c.within (c.leaves y) v, rw v.there (draws_left d c.some c.within (c.leaves y) (rw e p)))
+
+-- ---- no free window is left
+
+pub draws_all : {C T : ℕ} {demand free held₀ left₀ held left : List ℕ} {w : Place} {i n m : ℕ} → Given T demand free → Stands C T demand free w i
+    → length free ≤ i → Draws C T demand free held₀ left₀ held left n m w.at
+    → Drawn held₀ held n (held_from C T demand free) × Drawn left₀ left m (left_from C T demand free)
+draws_all {C} {T} {demand} {free} {w = w} g s k d =
+    (drawn_all d.in_held (λ t l. held_not_free C T (cover demand) (cover free) g.some t (over t l)), drawn_all d.in_left (λ t l. omega (arith, over t l)))
+  where
+    over : (t : ℕ) → w.at ≤ t → cover free t ≡ 0
+    over t l = s.offers.gap t l (λ o. absurd (omega arith))

@@ -1,0 +1,6 @@
+pub mod HeldBlocks
+pub mod CutPieces
+pub mod Standing
+pub mod HoldTurns
+pub mod DrawnSoFar
+pub mod HoldDraws

@@ -1,0 +1,25 @@
+-- `machine::picking::may_hold` meets its contract.
+use mathlib.Core.Path.{sym, ◌∙◌}
+use native.Mathlib.Nat.{pos_of_ne-zero}
+use native.Mathlib.Omega.{arith}
+use borrow.Author.Rules.{rules}
+use borrow.Author.Tests.{lt-ltb, le-ltb}
+use Rattle.machine.proofs.picking.may_hold.Statement.{statement}
+use Rattle.machine.proofs.picking.may_hold.Tie as tie
+
+returns : tie.Need-returns
+returns c = rw (le-ltb 0 c.before.args.budget (omega (arith, c.if1.true)))
+
+holds-idle-requires : tie.Need-holds-idle-requires
+holds-idle-requires c κs = search rules
+
+returns-2 : tie.Need-returns-2
+returns-2 c =
+    rw (lt-ltb 0 c.before.before.before.args.budget (pos_of_ne-zero c.before.before.if1.false), sym c.before.holds-idle.ensures ∙ c.if2.true)
+
+returns-3 : tie.Need-returns-3
+returns-3 c =
+    rw (lt-ltb 0 c.before.before.before.args.budget (pos_of_ne-zero c.before.before.if1.false), sym c.before.holds-idle.ensures ∙ c.if2.false)
+
+pub may_hold_spec : {M : Type 1} → statement M
+may_hold_spec = tie.close (tie.spec returns holds-idle-requires returns-2 returns-3)
