@@ -13,8 +13,11 @@ import sys
 
 HERE = os.path.dirname(os.path.realpath(__file__))
 TOKEN = re.compile(r"(?<![\w'-])[A-Za-z_][\w'-]*")
-# a lemma and a helper of one file that would have one name
-HERE_ALONE = {"crates/refusals/proofs/Outcomes.antt": {"written_back": "written_back_lem"}}
+# a lemma and a helper of one file that would have one name; a lemma that is also one of the logic's
+HERE_ALONE = {
+    "crates/refusals/proofs/Outcomes.antt": {"written_back": "written_back_lem"},
+    "crates/table/proofs/Spans.antt": {"not-true": "not_true"},
+}
 
 
 def texts(root):

@@ -1,4 +1,6 @@
 // The answers of a table's servers and tasks, and who holds a tick of it, worked out on six work buffers in one walk down the servers.
+#![tactic(auto)]
+
 ghost use Rattle.std.specs.Prelude.{◌≡◌, false, ◌≤◌, length, get_or};
 ghost use Rattle.table.specs.Places.{Obeyed, first_of};
 ghost use Rattle.answering.specs.Noted.{NoNotes, AllNoted};
@@ -12,13 +14,13 @@ use serving::hold_server;
 use table::Table;
 
 // What is noted of the servers: each one's answer, and whether it holds the tick asked for.
-#[derive(Drop)]
+#[derive(Clone, Copy)]
 pub struct ServerNotes {
     pub answers: [ServerAnswer; 16],
     pub holds: [bool; 64],
 }
 
-#[derive(Drop)]
+#[derive(Clone, Copy)]
 pub struct Notes {
     pub servers: ServerNotes,
     pub tasks: TaskNotes,

@@ -1,9 +1,11 @@
 // What the report says of each task and each server: the answers' types, their definitions (specs/) and laws (proofs/).
+#![tactic(auto)]
+
 
 use refusals::Refusal;
 
 // The worst response, the release of the first job that attains it, and the margin.
-#[derive(Drop)]
+#[derive(Clone, Copy)]
 pub struct WorstJob {
     pub response: u32,
     pub release: u32,
@@ -11,27 +13,27 @@ pub struct WorstJob {
 }
 
 // A task's answer: the worst response; or the release of the first job that has not ended with the span; or nothing, if no job is released in it.
-#[derive(Drop)]
+#[derive(Clone, Copy)]
 pub enum Response {
     Worst(WorstJob),
     Unfinished(u32),
     None,
 }
 
-#[derive(Drop)]
+#[derive(Clone, Copy)]
 pub struct TaskAnswer {
     pub response: Response,
 }
 
 // The first short period of a server, counted from 0, if there is one.
-#[derive(Drop)]
+#[derive(Clone, Copy)]
 pub enum Short {
     First(u32),
     Never,
 }
 
 // A server's answer: how many full periods the span has, and the first short one.
-#[derive(Drop)]
+#[derive(Clone, Copy)]
 pub struct ServerAnswer {
     pub full: u32,
     pub short: Short,
@@ -39,7 +41,7 @@ pub struct ServerAnswer {
 
 // The answers of a table's servers and tasks, as many as it has, and its span; those beyond its counts are `Never` and `None`. Or a
 // refusal, with no answers.
-#[derive(Drop)]
+#[derive(Clone, Copy)]
 pub struct Analysis {
     pub refusal: Refusal,
     pub span: u32,

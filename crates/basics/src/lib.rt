@@ -1,4 +1,6 @@
 // What every layer above uses: a choice by a test, the larger and the smaller of two numbers.
+#![tactic(auto)]
+
 ghost use Rattle.std.specs.Prelude.{◌≡◌, min, max};
 
 // The larger of two numbers.

@@ -3,7 +3,7 @@ ghost use Rattle.std.specs.Prelude.{◌≤◌};
 ghost use Rattle.io.specs.Counts.{IsPrefixLen};
 
 // Whether all of a line stands for bytes, and how many.
-#[derive(Drop)]
+#[derive(Clone, Copy)]
 pub struct Decoded {
     pub whole: bool,
     pub count: usize,

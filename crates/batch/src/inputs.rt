@@ -7,7 +7,7 @@ ghost use Rattle.io.specs.Counts.{IsPrefixLen};
 use crate::INPUT;
 
 // How many bytes are held, how many of them, from the first, are whole lines, and whether no more come.
-#[derive(Drop)]
+#[derive(Clone, Copy)]
 pub struct Input {
     pub lines: usize,
     pub held: usize,

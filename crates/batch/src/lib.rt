@@ -1,6 +1,8 @@
 // What programs share that answer standard input line by line: the bytes that wait to be written, and where lines start and end.
 // `n` bytes wait at the front of `out` until it is full, and are then written to standard output at once. Each function that puts answers
 // how many bytes wait after it.
+#![tactic(auto)]
+
 pub mod decoding;
 pub mod inputs;
 pub mod numbers;

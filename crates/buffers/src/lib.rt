@@ -1,4 +1,6 @@
 // Curves at the front of work buffers.
+#![tactic(auto)]
+
 ghost use Rattle.std.specs.Prelude.{◌≡◌, ◌≤◌, ◌<◌, length, take, replicate};
 ghost use Rattle.buffers.specs.Parts.{Curve, Drawn, Wrote, with_window};
 

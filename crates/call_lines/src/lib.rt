@@ -1,5 +1,7 @@
 // How the programs that run calls put an answer: a refusal, how much was written, a lent buffer of bytes. `n` bytes wait at the front of `out`, and
 // each function that puts answers how many wait after it.
+#![tactic(auto)]
+
 ghost use Rattle.std.specs.Prelude.{◌≤◌, ◌<◌};
 
 use batch::{put_byte, put_number, put_word};

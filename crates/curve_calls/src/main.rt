@@ -6,6 +6,8 @@
 // The answer is `count n`, `counts l s r`, `at t`, `not provided`, or `refused number line place`; behind it stands ` |` and the numbers of each lent
 // buffer. A line of any other form is answered by `bad`, and so is one of more than 1,048,576 bytes, its line feed counted. The input may have any
 // length, and its last line needs no line feed.
+#![tactic(auto)]
+
 ghost use Rattle.std.specs.Prelude.{◌≤◌};
 ghost use Rattle.io.specs.Counts.{IsPrefixLen};
 

@@ -9,14 +9,14 @@ use batch::numbers::next_number;
 pub const MOST: usize = 4096;
 
 // How many numbers a curve or a lent buffer has, and the place behind it in the text.
-#[derive(Drop)]
+#[derive(Clone, Copy)]
 pub struct Size {
     pub count: usize,
     pub behind: usize,
 }
 
 // A curve at the front of an array, how many numbers it has, and the place behind it in the text.
-#[derive(Drop)]
+#[derive(Clone, Copy)]
 pub struct Curve {
     pub numbers: [u32; MOST],
     pub count: usize,

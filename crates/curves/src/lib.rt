@@ -1,5 +1,7 @@
 // The four calls on curves: adding up, cutting, fitting, time to provide. A curve is lent as a flat slice of its windows' starts and
 // ends. Any slice and any number may be handed in; a bad one is refused, and a refused call changes nothing that was lent.
+#![tactic(auto)]
+
 ghost use Rattle.std.specs.Prelude.{◌≡◌};
 ghost use Rattle.windows.specs.Windows.{is_plain};
 ghost use Rattle.curves.specs.Calls.{Adds, Cuts, Fits, Provides};
@@ -8,7 +10,7 @@ use refusals::{Ground, Refusal, Written, refused};
 use walks::{LIMIT, adding, cutting};
 
 // When a curve has given the amount asked for.
-#[derive(Drop)]
+#[derive(Clone, Copy)]
 pub enum Provided {
     At(u32),
     NotProvided,
@@ -16,7 +18,7 @@ pub enum Provided {
 }
 
 // How many numbers fitting wrote: supply left, served, demand left.
-#[derive(Drop)]
+#[derive(Clone, Copy)]
 pub enum Fitted {
     Counts(usize, usize, usize),
     Refused(Refusal),

@@ -1,4 +1,6 @@
 // A table's entries as rows of numbers, for callers in C: a server's row has three numbers, a task's six.
+#![tactic(auto)]
+
 mod giving;
 pub mod placing;
 mod taking;

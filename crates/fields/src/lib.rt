@@ -1,11 +1,13 @@
 // Lines, fields, words and numbers of a text.
+#![tactic(auto)]
+
 pub mod parting;
 pub mod values;
 
 use refusals::Ground;
 
 // The first word of a line.
-#[derive(Drop)]
+#[derive(Clone, Copy)]
 pub enum Word {
     Span,
     Server,
@@ -15,7 +17,7 @@ pub enum Word {
 }
 
 // A field that is to be a number.
-#[derive(Drop)]
+#[derive(Clone, Copy)]
 pub enum Number {
     Value(u32),
     Bad(Ground),

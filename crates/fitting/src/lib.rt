@@ -1,5 +1,7 @@
 // Fitting, a piece at a time: one step, a walk that counts and a walk that writes. Both walks hand on the supply slice from the first
 // window that is not yet used up or passed.
+#![tactic(auto)]
+
 ghost use Rattle.std.specs.Prelude.{◌≡◌, true, length};
 ghost use Rattle.windows.specs.Windows.{is_plain, fit};
 ghost use Rattle.refusals.specs.Outcomes.{front};
@@ -10,7 +12,7 @@ use walks::put;
 
 // How far a fitting has come: the demand from the window at `at` on, the first from `wanted` on; the supply slice's first window from
 // `free` on.
-#[derive(Drop)]
+#[derive(Clone, Copy)]
 pub struct Place {
     pub at: usize,
     pub wanted: u32,
@@ -18,7 +20,7 @@ pub struct Place {
 }
 
 // Demand served in one stretch: where it ends, and the demand behind it.
-#[derive(Drop)]
+#[derive(Clone, Copy)]
 pub struct Stretch {
     pub at: usize,
     pub wanted: u32,
@@ -26,7 +28,7 @@ pub struct Stretch {
 }
 
 // The next piece of one of the three results, how many numbers of the supply slice are done with, and the place behind it.
-#[derive(Drop)]
+#[derive(Clone, Copy)]
 pub enum Piece {
     Left(u32, u32, usize, Place),
     Served(u32, u32, usize, Place),
@@ -35,7 +37,7 @@ pub enum Piece {
 }
 
 // How many numbers were written: supply left, served, demand left.
-#[derive(Drop)]
+#[derive(Clone, Copy)]
 pub struct Counts {
     pub left: usize,
     pub served: usize,

@@ -1,5 +1,7 @@
 // The library's calls for programs in C: numbers, slices (a pointer and a length), and places to write to. Each answers 0, or the number of its
 // refusal; what it hands out is then left as it was, but for line and place, and but for a refused step, which hands out 0 for holder and runner.
+#![tactic(auto)]
+
 ghost use Rattle.grodvejas.specs.Calls.{Adds, Cuts, Fits, Provides, Reads, Writes, Steps, StepsTable, Tells, Analyses, Reports};
 
 use entries::table_from;

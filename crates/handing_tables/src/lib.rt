@@ -1,4 +1,6 @@
 // What the calls for C on a table hand out, through places to write to: line and place of a refusal, what is read of a text, a step of the machine.
+#![tactic(auto)]
+
 ghost use Rattle.std.specs.Prelude.{◌≡◌, ◌≤◌};
 ghost use Rattle.machine.specs.Machine.{step_of};
 ghost use Rattle.handing_tables.specs.Tables.{refusal_in, HandsReading, step_for, HandsStep, unplaced};

@@ -1,4 +1,6 @@
 // The held ticks of a server: a demand fitted into free ticks, at most a capacity in each period.
+#![tactic(auto)]
+
 ghost use Rattle.std.specs.Prelude.{◌≡◌, ◌+◌, ◌-◌, ◌%◌, ◌≤◌, ◌<◌, length, get_or};
 ghost use Rattle.buffers.specs.Parts.{PlainBelow, Drawn};
 ghost use Rattle.holding.specs.Pieces.{held_from, left_from, first_place, window_behind, Entered, Offered, Holds, Cuts, Served, Skipped};
@@ -8,7 +10,7 @@ use buffers::put;
 
 // Where the walk stands: every tick below `at` is decided, the demand not yet served starts at `wanted`, in the window at `demand`; the period
 // under way ends at `until` and has `budget` left.
-#[derive(Drop)]
+#[derive(Clone, Copy)]
 struct Place {
     demand: usize,
     wanted: u32,
@@ -18,14 +20,14 @@ struct Place {
 }
 
 // What comes next of a free window, up to `stop`: ticks that are all held or all left.
-#[derive(Drop)]
+#[derive(Clone, Copy)]
 struct Piece {
     stop: u32,
     held: bool,
 }
 
 // How many numbers were written.
-#[derive(Drop)]
+#[derive(Clone, Copy)]
 pub struct Counts {
     pub held: usize,
     pub left: usize,

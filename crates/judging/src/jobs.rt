@@ -12,7 +12,7 @@ use demands::releasing::{first_release, next_release};
 use table::Task;
 
 // The worst response so far and the release of the first job that attains it, if a job has ended.
-#[derive(Drop)]
+#[derive(Clone, Copy)]
 pub struct Worst {
     pub any: bool,
     pub response: u32,

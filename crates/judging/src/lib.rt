@@ -1,4 +1,6 @@
 // The answer of a task from the ticks in which it runs, of a server from its free curve, and whether a curve covers a tick.
+#![tactic(auto)]
+
 pub mod covering;
 pub mod jobs;
 mod passing;

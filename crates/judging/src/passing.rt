@@ -4,7 +4,7 @@ ghost use Rattle.windows.specs.Windows.{is_plain, provide};
 ghost use Rattle.judging.specs.Passes.{Passes, reached_at, EndsBy, EndsAfter};
 
 // How far a curve has been passed: so many of its windows, which give so many ticks.
-#[derive(Drop)]
+#[derive(Clone, Copy)]
 pub struct Passed {
     pub windows: usize,
     pub given: u32,

@@ -1,4 +1,6 @@
 // What one line says.
+#![tactic(auto)]
+
 ghost use Rattle.std.specs.Prelude.{◌≡◌, ◌≤◌, length};
 ghost use Rattle.basics.specs.Choice.{pick};
 ghost use Rattle.fields.specs.Fields.{field_at, same_bytes, dash, field_number};
@@ -14,21 +16,21 @@ use table::ranges::{in_ticks, within};
 use table::{Kind, Release, Server, Task};
 
 // A field that is to be a server's kind.
-#[derive(Drop)]
+#[derive(Clone, Copy)]
 pub enum KindField {
     Is(Kind),
     Bad(Ground),
 }
 
 // Two numbers, or what is wrong with the first that is none.
-#[derive(Drop)]
+#[derive(Clone, Copy)]
 pub enum Pair {
     Of(u32, u32),
     Bad(Line),
 }
 
 // What one line says; a span of 0 is the one that all periods give.
-#[derive(Drop)]
+#[derive(Clone, Copy)]
 pub enum Line {
     SpanIs(u32),
     ServerIs(Server),

@@ -1,4 +1,6 @@
 // The machine that goes one tick at a time.
+#![tactic(auto)]
+
 mod picking;
 mod refilling;
 mod refusing;
@@ -13,7 +15,7 @@ use refusals::{Ground, Refusal, no_refusal};
 use table::Table;
 
 // Before a tick: its number, each server's budget, each task's waiting work.
-#[derive(Drop)]
+#[derive(Clone, Copy)]
 pub struct State {
     pub tick: u32,
     pub budgets: [u32; 16],
@@ -21,7 +23,7 @@ pub struct State {
 }
 
 // What a step answers, or its refusal; holder and runner are 0 for none.
-#[derive(Drop)]
+#[derive(Clone, Copy)]
 pub struct Stepped {
     pub refusal: Refusal,
     pub next: State,

@@ -1,4 +1,6 @@
 // Reads a table's text from standard input and writes its report, from the tick machine alone.
+#![tactic(auto)]
+
 use batch::flush;
 use watching::put_answer;
 

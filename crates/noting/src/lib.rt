@@ -1,4 +1,6 @@
 // What is noted of a server's tasks, one after the other: each one's answer, and whether it runs in one tick.
+#![tactic(auto)]
+
 ghost use Rattle.std.specs.Prelude.{◌≡◌, suc, ℕ, ◌+◌, ◌≤◌, ◌<◌, length, take};
 ghost use Rattle.table.specs.Places.{Obeyed};
 ghost use Rattle.schedule.specs.Curves.{held_of};
@@ -11,7 +13,7 @@ use serving::share;
 use table::Table;
 
 // What is noted of the tasks: each one's answer, and whether it runs in the tick asked for. Those not yet looked at are `None` and false.
-#[derive(Drop)]
+#[derive(Clone, Copy)]
 pub struct TaskNotes {
     pub answers: [TaskAnswer; 64],
     pub runs: [bool; 64],

@@ -1,5 +1,7 @@
 // What every call on a text and six work buffers does first: the lengths of the buffers, the text, the tick asked for; out comes a table, or a
 // refusal.
+#![tactic(auto)]
+
 ghost use Rattle.std.specs.Prelude.{◌≡◌, ◌&&◌};
 ghost use Rattle.opening.specs.Opening.{enough, read_with, refusal_at, opened_of};
 
@@ -11,7 +13,7 @@ use table::Table;
 pub const ROOM: usize = 16_000;
 
 // The table of an accepted text, or the refusal; a table is there in any case, and empty where the text was not read.
-#[derive(Drop)]
+#[derive(Clone, Copy)]
 pub struct Opened {
     pub refusal: Refusal,
     pub table: Table,

@@ -1,4 +1,6 @@
 // The lines of a report. Each function puts its bytes behind `n` bytes of a buffer and answers how many there are then.
+#![tactic(auto)]
+
 ghost use Rattle.std.specs.Prelude.{◌+◌, ◌≤◌};
 ghost use Rattle.answers.specs.declared.Response.TheVariants.{Worst};
 ghost use Rattle.putting.specs.Puts.{Put};

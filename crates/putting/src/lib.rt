@@ -1,5 +1,7 @@
 // Bytes put one behind the other into a buffer. Each function answers how many bytes there are then; what the buffer has no room for is counted
 // and not written.
+#![tactic(auto)]
+
 ghost use Rattle.std.specs.Prelude.{◌≡◌, ◌+◌, ◌≤◌, [], ◌∷◌, ◌++◌, length, nat_abs};
 ghost use Rattle.putting.specs.Puts.{Put};
 ghost use Rattle.putting.specs.Decimal.{decimal, field, signed};

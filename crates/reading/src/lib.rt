@@ -1,4 +1,6 @@
 // Reading: from a table's text to the table, or to what is wrong with it, in which line and at which place.
+#![tactic(auto)]
+
 ghost use Rattle.std.specs.Prelude.{◌≡◌, ◌≤◌, length};
 ghost use Rattle.reading.specs.Reading.{no_table, refusal, ended_of, read_lines, reading_of};
 ghost use Rattle.reading.specs.Pieces.{Feeds};
@@ -10,14 +12,14 @@ use refusals::{Ground, Refusal, refused_at};
 use table::multiples::common_span;
 use table::{Kind, Release, Server, Span, Table, Task};
 
-#[derive(Drop)]
+#[derive(Clone, Copy)]
 pub enum Answer {
     Accepted,
     Refused(Refusal),
 }
 
 // An accepted text comes with its table; a refused one with an empty table.
-#[derive(Drop)]
+#[derive(Clone, Copy)]
 pub struct Reading {
     pub answer: Answer,
     pub table: Table,

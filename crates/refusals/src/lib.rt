@@ -1,9 +1,11 @@
 // Refusals: every ground on which a call turns its input away, its number, and the line and place that go with it.
+#![tactic(auto)]
+
 ghost use Rattle.std.specs.Prelude.{◌≡◌};
 ghost use Rattle.refusals.specs.Refusals.{number_of, refused_at, no_refusal};
 
 // What can be wrong: with a text, with lent buffers and curves, with arguments, with a state, with a table.
-#[derive(Drop)]
+#[derive(Clone, Copy)]
 pub enum Ground {
     TextTooLong,
     NotEnded,
@@ -29,7 +31,7 @@ pub enum Ground {
 
 // The number of what is wrong, in which line from 1 on and at which place of it, the first word being 1; 0 where there is none. All are 0 where
 // nothing is refused.
-#[derive(Drop)]
+#[derive(Clone, Copy)]
 pub struct Refusal {
     pub number: u32,
     pub line: u32,
@@ -37,7 +39,7 @@ pub struct Refusal {
 }
 
 // How many numbers or bytes a call wrote to the front of the lent buffer.
-#[derive(Drop)]
+#[derive(Clone, Copy)]
 pub enum Written {
     Count(usize),
     Refused(Refusal),

@@ -1,4 +1,6 @@
 // Reads a table's text from standard input and writes its report.
+#![tactic(auto)]
+
 ghost use Rattle.std.specs.Prelude.{◌≡◌};
 ghost use Rattle.refusals.specs.declared.Refusal.{Refusal};
 ghost use Rattle.refusals.specs.declared.Written.TheVariants.{Count, Refused};

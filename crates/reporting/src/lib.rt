@@ -1,4 +1,6 @@
 // The report of a table's text, as text.
+#![tactic(auto)]
+
 ghost use Rattle.std.specs.Prelude.{◌≡◌, true, ◌≤◌, length};
 ghost use Rattle.scheduling.specs.Analysing.{analysis_of};
 ghost use Rattle.printing.specs.Report.{report_of};

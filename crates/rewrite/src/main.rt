@@ -1,4 +1,6 @@
 // Reads a table's text from standard input and writes the table back as text.
+#![tactic(auto)]
+
 use rewriting::rewrite;
 
 // More bytes than a table's text may have: of a longer input, no more has to be read.

@@ -1,4 +1,6 @@
 // The table of a text, written back as text.
+#![tactic(auto)]
+
 ghost use Rattle.std.specs.Prelude.{◌≡◌, ◌≤◌, length};
 ghost use Rattle.table.specs.Places.{Obeyed};
 ghost use Rattle.refusals.specs.Outcomes.{front};

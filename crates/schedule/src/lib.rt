@@ -1,1 +1,3 @@
 // Who runs when, from curves: definitions and laws, no code.
+#![tactic(auto)]
+

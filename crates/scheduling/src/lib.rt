@@ -1,4 +1,6 @@
 // Who runs when, and what comes of it, worked out from curves on six lent work buffers.
+#![tactic(auto)]
+
 ghost use Rattle.std.specs.Prelude.{◌≡◌, ◌≤◌};
 ghost use Rattle.opening.specs.Opening.{roomy};
 ghost use Rattle.scheduling.specs.Buffers.{Buffers};
@@ -14,7 +16,7 @@ use refusals::Refusal;
 use table::Table;
 
 // Who holds a tick and who runs in it, 0 for none; or a refusal.
-#[derive(Drop)]
+#[derive(Clone, Copy)]
 pub struct Who {
     pub refusal: Refusal,
     pub holder: u32,
@@ -22,7 +24,7 @@ pub struct Who {
 }
 
 // What was worked out of a text's table, or a refusal, with nothing noted.
-#[derive(Drop)]
+#[derive(Clone, Copy)]
 struct Worked {
     refusal: Refusal,
     table: Table,

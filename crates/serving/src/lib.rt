@@ -1,4 +1,6 @@
 // One server's part: the ticks that it holds of a free curve, and those in which a task of it runs.
+#![tactic(auto)]
+
 ghost use Rattle.std.specs.Prelude.{◌≡◌, ◌≤◌, ◌<◌, length, take};
 ghost use Rattle.windows.specs.Windows.{fit};
 ghost use Rattle.table.specs.Places.{Obeyed};
@@ -65,7 +67,7 @@ pub fn hold_server(
 const ALL: u32 = 16_000;
 
 // How many numbers a task's ticks have, and those that are left to later tasks.
-#[derive(Drop)]
+#[derive(Clone, Copy)]
 pub struct Shares {
     pub running: usize,
     pub left: usize,

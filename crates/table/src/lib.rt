@@ -1,4 +1,6 @@
 // The table of servers and tasks, the rules that it obeys, and the span that its periods give.
+#![tactic(auto)]
+
 mod euclid;
 pub mod multiples;
 pub mod ranges;
@@ -8,13 +10,13 @@ ghost use Rattle.std.specs.Prelude.{◌≡◌};
 ghost use Rattle.table.specs.Rules.{obeys};
 
 // Whether a server holds ticks without work.
-#[derive(Drop)]
+#[derive(Clone, Copy)]
 pub enum Kind {
     Deferrable,
     Periodic,
 }
 
-#[derive(Drop)]
+#[derive(Clone, Copy)]
 pub struct Server {
     pub kind: Kind,
     pub capacity: u32,
@@ -22,13 +24,13 @@ pub struct Server {
 }
 
 // A task is released once, at its instant, or at its offset and every period after it.
-#[derive(Drop)]
+#[derive(Clone, Copy)]
 pub enum Release {
     Once(u32),
     Every(u32, u32),
 }
 
-#[derive(Drop)]
+#[derive(Clone, Copy)]
 pub struct Task {
     pub server: u32,
     pub work: u32,
@@ -37,7 +39,7 @@ pub struct Task {
 }
 
 // Entries beyond the counts mean nothing.
-#[derive(Drop)]
+#[derive(Clone, Copy)]
 pub struct Table {
     pub span: u32,
     pub servers_n: usize,
@@ -47,7 +49,7 @@ pub struct Table {
 }
 
 // The span that all periods give.
-#[derive(Drop)]
+#[derive(Clone, Copy)]
 pub enum Span {
     Ticks(u32),
     Over,

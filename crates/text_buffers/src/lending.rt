@@ -10,7 +10,7 @@ use scheduling::{Who, analyse, who_at};
 const GUARDED: usize = 16_016;
 
 // What a call answered: a refusal; span, servers and tasks of an analysis; holder and runner of a tick.
-#[derive(Drop)]
+#[derive(Clone, Copy)]
 pub enum Said {
     Refused(Refusal),
     Answers(u32, usize, usize),
@@ -18,14 +18,14 @@ pub enum Said {
 }
 
 // What became of an array: whether all of it is as it was, and whether all of the lent part is 0 and the guard as it was.
-#[derive(Drop)]
+#[derive(Clone, Copy)]
 pub struct Seen {
     pub same: bool,
     pub zero: bool,
 }
 
 // What a call answered and what became of the six arrays.
-#[derive(Drop)]
+#[derive(Clone, Copy)]
 pub struct Lent {
     pub said: Said,
     pub seen: [Seen; 6],

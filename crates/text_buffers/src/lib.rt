@@ -1,5 +1,7 @@
 // Kinds 6 and 7 of the program `text_calls`: calls that are lent six work buffers, and what became of each buffer. `n` bytes wait at the front
 // of `out`, and each function that puts answers how many wait after it.
+#![tactic(auto)]
+
 mod lending;
 
 ghost use Rattle.text_lines.specs.Fits.{Lendable};
@@ -10,7 +12,7 @@ use lending::{Said, Seen, lend};
 use text_lines::asking::Rooms;
 
 // A call on six lent buffers: the analysis, or who holds a tick.
-#[derive(Drop)]
+#[derive(Clone, Copy)]
 pub enum Call {
     Analyse,
     WhoAt(u32),

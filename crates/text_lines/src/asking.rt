@@ -14,7 +14,7 @@ const TEXT: usize = 5000;
 const LENT: u32 = 16_008;
 
 // How many numbers of each work buffer are lent.
-#[derive(Drop)]
+#[derive(Clone, Copy)]
 pub struct Rooms {
     pub free: usize,
     pub sum: usize,
@@ -26,7 +26,7 @@ pub struct Rooms {
 }
 
 // The bytes of a text at the front of an array, and whether the line gives no more than these.
-#[derive(Drop)]
+#[derive(Clone, Copy)]
 pub struct Text {
     pub whole: bool,
     pub bytes: [u8; TEXT],
@@ -35,7 +35,7 @@ pub struct Text {
 
 // A line: its kind, 0 where it asks for nothing; the room of a report or the tick; the rooms of six work buffers; and the bytes of the text
 // at the front of an array.
-#[derive(Drop)]
+#[derive(Clone, Copy)]
 pub struct Asked {
     pub kind: u32,
     pub first: u32,

@@ -8,21 +8,21 @@ ghost use Rattle.walks.specs.Steps.{InBoth, TakeGives, SumGives};
 use crate::{LIMIT, put};
 
 // A place in two curves: what lies before it has been taken.
-#[derive(Drop)]
+#[derive(Clone, Copy)]
 pub struct Both {
     pub i: usize,
     pub j: usize,
 }
 
 // The next window of two curves by its start, and the place behind it.
-#[derive(Drop)]
+#[derive(Clone, Copy)]
 pub enum Taken {
     Window(u32, u32, Both),
     Nothing,
 }
 
 // The next window of a sum, and the place behind all that it is made of; or that it ends above LIMIT.
-#[derive(Drop)]
+#[derive(Clone, Copy)]
 pub enum Piece {
     Window(u32, u32, Both),
     Done,

@@ -8,14 +8,14 @@ use crate::put;
 use basics::larger;
 
 // A place in the cut of a curve: the next piece is of the window at `at`, from `from` or from that window's start.
-#[derive(Drop)]
+#[derive(Clone, Copy)]
 pub struct Cut {
     pub at: usize,
     pub from: u32,
 }
 
 // The next piece, and the place behind it.
-#[derive(Drop)]
+#[derive(Clone, Copy)]
 pub enum Piece {
     Window(u32, u32, Cut),
     Done,

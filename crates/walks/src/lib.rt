@@ -1,5 +1,7 @@
 // The walks along curves: adding up and cutting, each a step, a walk that counts and a walk that writes. Curves are plain and room is
 // enough where a function asks for it.
+#![tactic(auto)]
+
 pub mod adding;
 pub mod cutting;
 

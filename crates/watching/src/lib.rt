@@ -1,5 +1,7 @@
 // The report from the tick machine alone: the machine is stepped over the whole span, it is noted which server holds each tick and which task
 // runs in it, and what the report says of each server and each task is counted from these notes.
+#![tactic(auto)]
+
 mod counting;
 mod servers;
 mod tasks;

@@ -7,7 +7,7 @@ use table::{Release, Table, Task};
 
 // What is known of a task's jobs: the release of the first job not ended, or NEVER where no job follows; how long it has run; and the
 // answer of those that have ended.
-#[derive(Drop)]
+#[derive(Clone, Copy)]
 struct Jobs {
     release: u32,
     ran: u32,

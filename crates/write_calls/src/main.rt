@@ -8,6 +8,8 @@
 // buffer and of the guard of 8 behind it as hexadecimal digits. Byte i was i % 251.
 // A line that starts with `#` is copied, and a line of any other form is answered by `bad`; so is every line of more than 1,048,576 bytes, its
 // line feed counted. The input may have any length, and its last line needs no line feed.
+#![tactic(auto)]
+
 ghost use Rattle.std.specs.Prelude.{◌≤◌, ◌<◌, length};
 
 use batch::inputs::{read_on, unread};
@@ -18,7 +20,7 @@ use entries::table_from;
 use table::Table;
 
 // What stands in front of the rows, and the place behind it.
-#[derive(Drop)]
+#[derive(Clone, Copy)]
 struct Head {
     room: u32,
     span: u32,

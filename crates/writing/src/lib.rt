@@ -1,4 +1,6 @@
 // A table written back as text, the way it is read.
+#![tactic(auto)]
+
 mod counting;
 mod line_writer;
 mod table_writer;

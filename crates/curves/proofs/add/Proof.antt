@@ -1,7 +1,7 @@
 -- `curves::add` meets its contract: each outcome from the tests that led to it.
 use mathlib.Core.Path.{◌≡◌, refl, sym, ◌∙◌}
 use mathlib.Core.Bool.{true}
-use borrow.Author.Tests.{not_true, not-false}
+use borrow.Author.Tests.{not-true, not-false}
 use lib.ListN.{length}
 use Rattle.windows.specs.Windows.{is_plain, add_up}
 use Rattle.walks.specs.Rooms.{fits_in}
@@ -37,7 +37,7 @@ refused-requires c κs = search rules
 returns : tie.Need-returns
 returns c =
     let t = c.before.before.plain in
-    rw (sym t.ensures ∙ not_true t.result c.before.if1.true, c.refused.ensures) (record { answer_is = refl; buffer = refl })
+    rw (sym t.ensures ∙ not-true t.result c.before.if1.true, c.refused.ensures) (record { answer_is = refl; buffer = refl })
 
 plain-requires-2 : tie.Need-plain-requires-2
 plain-requires-2 c κs = search rules
@@ -48,7 +48,7 @@ refused-requires-2 c κs = search rules
 returns-2 : tie.Need-returns-2
 returns-2 c =
     let t = c.before.before.plain2 in
-    rw (left_so c.before.before.before, sym t.ensures ∙ not_true t.result c.before.if2.true, c.refused2.ensures) (record { answer_is = refl; buffer = refl })
+    rw (left_so c.before.before.before, sym t.ensures ∙ not-true t.result c.before.if2.true, c.refused2.ensures) (record { answer_is = refl; buffer = refl })
 
 fits-requires : tie.Need-fits-requires
 fits-requires c κs = (left_so c.before.before, right_so c)
@@ -60,7 +60,7 @@ returns-3 : tie.Need-returns-3
 returns-3 c =
     let t = c.before.before.fits2 in
     let d = c.before.before.before in
-    rw (left_so d.before.before, right_so d, sym t.ensures ∙ not_true t.result c.before.if3.true, c.refused3.ensures) (record { answer_is = refl; buffer = refl })
+    rw (left_so d.before.before, right_so d, sym t.ensures ∙ not-true t.result c.before.if3.true, c.refused3.ensures) (record { answer_is = refl; buffer = refl })
 
 write-requires : tie.Need-write-requires
 write-requires c κs = let d = c.before in (left_so d.before.before.before.before, right_so d.before.before, fits-so d)

@@ -2,7 +2,7 @@
 use mathlib.Core.Path.{◌≡◌, refl, sym, ◌∙◌}
 use mathlib.Core.Bool.{true}
 use native.Mathlib.Omega.{arith}
-use borrow.Author.Tests.{eq-eqb, ne_eqb, not_true, not-false, leb-true, le-leb}
+use borrow.Author.Tests.{eq-eqb, ne_eqb, not-true, not-false, leb-true, le-leb}
 use lib.ListN.{length}
 use lib.Dec.{leb}
 use Rattle.windows.specs.Windows.{is_plain, cut_at, end_of}
@@ -43,7 +43,7 @@ refused-requires-2 c κs = search rules
 returns-2 : tie.Need-returns-2
 returns-2 c =
     let t = c.before.before.plain in
-    rw (ne_eqb _ _ c.before.before.before.if1.false, sym t.ensures ∙ not_true t.result c.before.if2.true, c.refused2.ensures) (record { answer_is = refl; buffer = refl })
+    rw (ne_eqb _ _ c.before.before.before.if1.false, sym t.ensures ∙ not-true t.result c.before.if2.true, c.refused2.ensures) (record { answer_is = refl; buffer = refl })
 
 fits-requires : tie.Need-fits-requires
 fits-requires c κs = (omega (arith, c.before.before.if1.false), plain-so c)
@@ -55,7 +55,7 @@ returns-3 : tie.Need-returns-3
 returns-3 c =
     let t = c.before.before.fits2 in
     let d = c.before.before.before in
-    rw (ne_eqb _ _ d.before.before.if1.false, plain-so d, sym t.ensures ∙ not_true t.result c.before.if3.true, c.refused3.ensures) (record { answer_is = refl; buffer = refl })
+    rw (ne_eqb _ _ d.before.before.if1.false, plain-so d, sym t.ensures ∙ not-true t.result c.before.if3.true, c.refused3.ensures) (record { answer_is = refl; buffer = refl })
 
 write-requires : tie.Need-write-requires
 write-requires c κs =

@@ -2,7 +2,7 @@
 use Prim.Native.Nat.{ℕ}
 use mathlib.Core.Path.{◌≡◌, refl, sym, ◌∙◌}
 use mathlib.Core.Bool.{Bool, true, false}
-use borrow.Author.Tests.{not_true, not-false}
+use borrow.Author.Tests.{not-true, not-false}
 use lib.ListN.{length}
 use Rattle.windows.specs.Windows.{is_plain, Fit, fit}
 use Rattle.fitting.specs.Steps.{fits_all, fit_rooms}
@@ -35,7 +35,7 @@ count-so : (c : tie.Else2) → tested fits_all (start-2 c) ≡ tested fit_rooms 
 count-so c = fits_rooms _ _ _ _ _ (demand-so c.before.before) (supply-so c)
 
 full-so : (c : tie.Then3) → tested fit_rooms (start-2 c.before.before) ≡ false
-full-so c = sym c.before.fits2.ensures ∙ not_true c.before.fits2.result c.if3.true
+full-so c = sym c.before.fits2.ensures ∙ not-true c.before.fits2.result c.if3.true
 
 fits-so : (c : tie.Else3) → tested fit_rooms (start-2 c.before.before) ≡ true
 fits-so c = sym c.before.fits2.ensures ∙ not-false c.before.fits2.result c.if3.false
@@ -49,7 +49,7 @@ refused-requires c κs = search rules
 returns : tie.Need-returns
 returns c =
     let t = c.before.before.plain in
-    rw (sym t.ensures ∙ not_true t.result c.before.if1.true, c.refused.ensures) (refl, refl, refl, refl)
+    rw (sym t.ensures ∙ not-true t.result c.before.if1.true, c.refused.ensures) (refl, refl, refl, refl)
 
 plain-requires-2 : tie.Need-plain-requires-2
 plain-requires-2 c κs = search rules
@@ -60,7 +60,7 @@ refused-requires-2 c κs = search rules
 returns-2 : tie.Need-returns-2
 returns-2 c =
     let t = c.before.before.plain2 in
-    rw (demand-so c.before.before.before, sym t.ensures ∙ not_true t.result c.before.if2.true, c.refused2.ensures) (refl, refl, refl, refl)
+    rw (demand-so c.before.before.before, sym t.ensures ∙ not-true t.result c.before.if2.true, c.refused2.ensures) (refl, refl, refl, refl)
 
 fits-requires : tie.Need-fits-requires
 fits-requires c κs = (demand-so c.before.before, supply-so c)

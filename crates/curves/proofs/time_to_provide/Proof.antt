@@ -4,7 +4,7 @@ use Prim.Native.Nat.{◌<◌, ◌-◌}
 use mathlib.Core.Path.{◌≡◌, refl, sym, ap, ◌∙◌}
 use mathlib.Core.Bool.{true}
 use native.Mathlib.Omega.{arith}
-use borrow.Author.Tests.{lt-leb, le-leb, eq-eqb, ne_eqb, not_true, not-false}
+use borrow.Author.Tests.{lt-leb, le-leb, eq-eqb, ne_eqb, not-true, not-false}
 use lib.ListN.{length, drop, drop_of_length-le}
 use Rattle.windows.specs.Windows.{is_plain}
 use Rattle.windows.specs.Walks.{walk}
@@ -46,7 +46,7 @@ refused-requires-2 c κs = search rules
 returns-2 : tie.Need-returns-2 invariant-loop decreases-loop
 returns-2 c =
     let t = c.before.before.plain in
-    rw (ne_eqb _ _ c.before.before.before.if1.false, sym t.ensures ∙ not_true t.result c.before.if2.true, c.refused2.ensures) refl
+    rw (ne_eqb _ _ c.before.before.before.if1.false, sym t.ensures ∙ not-true t.result c.before.if2.true, c.refused2.ensures) refl
 
 loop-holds : tie.Need-loop-init invariant-loop decreases-loop
 loop-holds c =

@@ -12,134 +12,134 @@ use borrow.Author.Rules.{rules}
 use Rattle.fitting.proofs.write.Statement.{statement}
 use Rattle.fitting.proofs.write.Tie as tie
 
-abbrev invariant-loop : tie.invariant-loop
+abbrev invariant-loop : tie.invariant-loop-a
 invariant-loop demand supply left₀ served₀ rest₀ l₀ s₀ r₀ ahead₀ place₀ left served rest l s r ahead place = InFit demand ahead place × FitWritten (fit demand supply) (fit_ahead demand ahead place) left₀ served₀ rest₀ left served rest l s r
 
-abbrev decreases-loop : tie.decreases-loop
+abbrev decreases-loop : tie.decreases-loop-a
 decreases-loop demand supply left₀ served₀ rest₀ l₀ s₀ r₀ ahead₀ place₀ left served rest l s r ahead place = total (fit_ahead demand ahead place)
 
 -- the piece of a turn
-left-piece : (c : tie.After-a invariant-loop decreases-loop)
-    → Goes c.before.before.before.before.before.before.before.before.before.args.demand.now c.before.before.before.loop.ahead.now c.before.before.before.loop.place (leaving c.a.given.0.0 c.a.given.0.1.0) c.a.given.0.1.1.0 c.a.given.0.1.1.1.0
-left-piece c = rw c.a.given.1 at c.before.before.next.ensures
+left-piece : (c : tie.In-Left invariant-loop decreases-loop)
+    → Goes c.args.demand.now c.loop-a.ahead.now c.loop-a.place (leaving c.in-Left.a c.in-Left.b) c.in-Left.k c.in-Left.behind
+left-piece c = rw c.in-Left.is at c.next.ensures
 
-served-piece : (c : tie.After-a2 invariant-loop decreases-loop)
-    → Goes c.before.before.before.before.before.before.before.before.before.args.demand.now c.before.before.before.loop.ahead.now c.before.before.before.loop.place (served_first c.a2.given.0.0 c.a2.given.0.1.0) c.a2.given.0.1.1.0 c.a2.given.0.1.1.1.0
-served-piece c = rw c.a2.given.1 at c.before.before.next.ensures
+served-piece : (c : tie.In-Served invariant-loop decreases-loop)
+    → Goes c.args.demand.now c.loop-a.ahead.now c.loop-a.place (served_first c.in-Served.a c.in-Served.b) c.in-Served.k c.in-Served.behind
+served-piece c = rw c.in-Served.is at c.next.ensures
 
-rest-piece : (c : tie.After-a3 invariant-loop decreases-loop)
-    → Goes c.before.before.before.before.before.before.before.before.before.args.demand.now c.before.before.before.loop.ahead.now c.before.before.before.loop.place (rest_first c.a3.given.0.0 c.a3.given.0.1.0) c.a3.given.0.1.1.0 c.a3.given.0.1.1.1.0
-rest-piece c = rw c.a3.given.1 at c.before.before.next.ensures
+rest-piece : (c : tie.In-Rest invariant-loop decreases-loop)
+    → Goes c.args.demand.now c.loop-a.ahead.now c.loop-a.place (rest_first c.in-Rest.a c.in-Rest.b) c.in-Rest.k c.in-Rest.behind
+rest-piece c = rw c.in-Rest.is at c.next.ensures
 
-loop-holds : tie.Need-loop-init invariant-loop decreases-loop
+loop-holds : tie.Need-loop-a-init invariant-loop decreases-loop
 loop-holds c =
-    let d = c.before.before.before.before.before.args.demand.now in
-    let s = c.before.before.before.before.before.args.supply.now in
-    (in_start d s c.before.before.before.before.before.requires.0 c.before.before.before.before.before.requires.1, rw (fit_start d s) (fit_written _ _ _ _ c.before.before.before.before.before.requires.2))
+    let d = c.args.demand.now in
+    let s = c.args.supply.now in
+    (in_start d s c.requires.0 c.requires.1, rw (fit_start d s) (fit_written _ _ _ _ c.requires.2))
 
 next-requires : tie.Need-next-requires invariant-loop decreases-loop
-next-requires c κs = c.loop.invariant.0
+next-requires c κs = c.loop-a.invariant.0
 
-enum_told : tie.Need-enum-told invariant-loop decreases-loop
+enum_told : tie.Need-enum_told-1 invariant-loop decreases-loop
 enum_told c = search rules
 
-same_length : tie.Need-same-length invariant-loop decreases-loop
-same_length c = c.before.before.before.loop.invariant.1.in_left.same
+same_length : tie.Need-shape_of-left-in-Done invariant-loop decreases-loop
+same_length c = c.loop-a.invariant.1.in_left.same
 
-same-length-2 : tie.Need-same-length-2 invariant-loop decreases-loop
-same-length-2 c = c.before.before.before.loop.invariant.1.in_served.same
+same-length-2 : tie.Need-shape_of-served-in-Done invariant-loop decreases-loop
+same-length-2 c = c.loop-a.invariant.1.in_served.same
 
-same-length-3 : tie.Need-same-length-3 invariant-loop decreases-loop
-same-length-3 c = c.before.before.before.loop.invariant.1.in_rest.same
+same-length-3 : tie.Need-shape_of-rest-in-Done invariant-loop decreases-loop
+same-length-3 c = c.loop-a.invariant.1.in_rest.same
 
-returns : tie.Need-returns invariant-loop decreases-loop
+returns : tie.Need-returns-in-Done invariant-loop decreases-loop
 returns c =
-    let w = rw (rw c.enum_told.given.1 at c.before.before.next.ensures) at c.before.before.before.loop.invariant.1 in
+    let w = rw (rw c.in-Done.is at c.next.ensures) at c.loop-a.invariant.1 in
     let a = written_all w.in_left refl in
     let b = written_all w.in_served refl in
     let d = written_all w.in_rest refl in
     (record { left = a.0; served = b.0; rest = d.0 }, (a.1, (b.1, d.1)))
 
-enum-known-a : tie.Need-enum-known-a invariant-loop decreases-loop
+enum-known-a : tie.Need-enum_known-a invariant-loop decreases-loop
 enum-known-a c = search rules
 
-put-requires : tie.Need-put-requires invariant-loop decreases-loop
-put-requires c κs = room_left c.before.before.before.before.before.loop.invariant.1 (left-piece c.before.before).is
+put-requires : tie.Need-put-l-requires invariant-loop decreases-loop
+put-requires c κs = room_left c.loop-a.invariant.1 (left-piece c.before).is
 
-mul-ahead : tie.Need-overflow-mul-ahead invariant-loop decreases-loop
-mul-ahead c = omega (arith, (left-piece c.before.before.before.before.before).small)
+mul-ahead : tie.Need-offset_bounds-ahead-k invariant-loop decreases-loop
+mul-ahead c = omega (arith, (left-piece c.before.before.before.before).small)
 
-sub-ahead : tie.Need-overflow-sub-ahead invariant-loop decreases-loop
-sub-ahead c = omega (arith, (left-piece c.before.before.before.before.before).within)
+sub-ahead : tie.Need-slice_bounds-ahead-count invariant-loop decreases-loop
+sub-ahead c = omega (arith, (left-piece c.before.before.before.before).within)
 
-part-ahead-start : tie.Need-slice-bounds-ahead-start invariant-loop decreases-loop
-part-ahead-start c = omega (arith, (left-piece c.before.before.before.before.before).within)
+part-ahead-start : tie.Need-slice_bounds-ahead-start invariant-loop decreases-loop
+part-ahead-start c = omega (arith, (left-piece c.before.before.before.before).within)
 
-part-ahead-end : tie.Need-slice-bounds-ahead-end invariant-loop decreases-loop
+part-ahead-end : tie.Need-slice_bounds-ahead-end invariant-loop decreases-loop
 part-ahead-end c = search rules
 
-loop-less : tie.Need-loop-smaller invariant-loop decreases-loop
-loop-less c = rw (part_rest _ _) (goes_less (left-piece c.before.before.before.before.before.before) (λ o. omega arith))
+loop-less : tie.Need-loop-a-smaller-in-Left invariant-loop decreases-loop
+loop-less c = rw (part_rest _ _) (goes_less (left-piece c.before.before.before.before.before) (λ o. omega arith))
 
-loop-again : tie.Need-loop-preserved invariant-loop decreases-loop
+loop-again : tie.Need-loop-a-preserved-in-Left invariant-loop decreases-loop
 loop-again c =
-    let g = left-piece c.before.before.before.before.before.before in
-    let e = c.before.before.before.put.ensures in
-    rw (part_rest _ _, e.0, e.1) (g.plain, write_left c.before.before.before.before.before.before.before.before.before.loop.invariant.1 g.is)
+    let g = left-piece c.before.before.before.before.before in
+    let e = c.put-l.ensures in
+    rw (part_rest _ _, e.0, e.1) (g.plain, write_left c.loop-a.invariant.1 g.is)
 
-enum-known-a-2 : tie.Need-enum-known-a-2 invariant-loop decreases-loop
+enum-known-a-2 : tie.Need-enum_known-a-in-Served-1 invariant-loop decreases-loop
 enum-known-a-2 c = search rules
 
-put-requires-2 : tie.Need-put-requires-2 invariant-loop decreases-loop
-put-requires-2 c κs = room_served c.before.before.before.before.before.loop.invariant.1 (served-piece c.before.before).is
+put-requires-2 : tie.Need-put-s-requires invariant-loop decreases-loop
+put-requires-2 c κs = room_served c.loop-a.invariant.1 (served-piece c.before).is
 
-mul-ahead-2 : tie.Need-overflow-mul-ahead-2 invariant-loop decreases-loop
-mul-ahead-2 c = omega (arith, (served-piece c.before.before.before.before.before).small)
+mul-ahead-2 : tie.Need-offset_bounds-ahead-k-in-Served invariant-loop decreases-loop
+mul-ahead-2 c = omega (arith, (served-piece c.before.before.before.before).small)
 
-sub-ahead-2 : tie.Need-overflow-sub-ahead-2 invariant-loop decreases-loop
-sub-ahead-2 c = omega (arith, (served-piece c.before.before.before.before.before).within)
+sub-ahead-2 : tie.Need-slice_bounds-ahead-count-in-Served invariant-loop decreases-loop
+sub-ahead-2 c = omega (arith, (served-piece c.before.before.before.before).within)
 
-part-ahead-start-2 : tie.Need-slice-bounds-ahead-start-2 invariant-loop decreases-loop
-part-ahead-start-2 c = omega (arith, (served-piece c.before.before.before.before.before).within)
+part-ahead-start-2 : tie.Need-slice_bounds-ahead-start-in-Served invariant-loop decreases-loop
+part-ahead-start-2 c = omega (arith, (served-piece c.before.before.before.before).within)
 
-part-ahead-end-2 : tie.Need-slice-bounds-ahead-end-2 invariant-loop decreases-loop
+part-ahead-end-2 : tie.Need-slice_bounds-ahead-end-in-Served invariant-loop decreases-loop
 part-ahead-end-2 c = search rules
 
-loop-less-2 : tie.Need-loop-smaller-2 invariant-loop decreases-loop
-loop-less-2 c = rw (part_rest _ _) (goes_less (served-piece c.before.before.before.before.before.before) (λ o. omega arith))
+loop-less-2 : tie.Need-loop-a-smaller-in-Served invariant-loop decreases-loop
+loop-less-2 c = rw (part_rest _ _) (goes_less (served-piece c.before.before.before.before.before) (λ o. omega arith))
 
-loop-again-2 : tie.Need-loop-preserved-2 invariant-loop decreases-loop
+loop-again-2 : tie.Need-loop-a-preserved-in-Served invariant-loop decreases-loop
 loop-again-2 c =
-    let g = served-piece c.before.before.before.before.before.before in
-    let e = c.before.before.before.put2.ensures in
-    rw (part_rest _ _, e.0, e.1) (g.plain, write_served c.before.before.before.before.before.before.before.before.before.loop.invariant.1 g.is)
+    let g = served-piece c.before.before.before.before.before in
+    let e = c.put-s.ensures in
+    rw (part_rest _ _, e.0, e.1) (g.plain, write_served c.loop-a.invariant.1 g.is)
 
-enum-known-a-3 : tie.Need-enum-known-a-3 invariant-loop decreases-loop
+enum-known-a-3 : tie.Need-enum_known-a-in-Rest-1 invariant-loop decreases-loop
 enum-known-a-3 c = search rules
 
-put-requires-3 : tie.Need-put-requires-3 invariant-loop decreases-loop
-put-requires-3 c κs = room_rest c.before.before.before.before.before.loop.invariant.1 (rest-piece c.before.before).is
+put-requires-3 : tie.Need-put-r-requires invariant-loop decreases-loop
+put-requires-3 c κs = room_rest c.loop-a.invariant.1 (rest-piece c.before).is
 
-mul-ahead-3 : tie.Need-overflow-mul-ahead-3 invariant-loop decreases-loop
-mul-ahead-3 c = omega (arith, (rest-piece c.before.before.before.before.before).small)
+mul-ahead-3 : tie.Need-offset_bounds-ahead-k-in-Rest invariant-loop decreases-loop
+mul-ahead-3 c = omega (arith, (rest-piece c.before.before.before.before).small)
 
-sub-ahead-3 : tie.Need-overflow-sub-ahead-3 invariant-loop decreases-loop
-sub-ahead-3 c = omega (arith, (rest-piece c.before.before.before.before.before).within)
+sub-ahead-3 : tie.Need-slice_bounds-ahead-count-in-Rest invariant-loop decreases-loop
+sub-ahead-3 c = omega (arith, (rest-piece c.before.before.before.before).within)
 
-part-ahead-start-3 : tie.Need-slice-bounds-ahead-start-3 invariant-loop decreases-loop
-part-ahead-start-3 c = omega (arith, (rest-piece c.before.before.before.before.before).within)
+part-ahead-start-3 : tie.Need-slice_bounds-ahead-start-in-Rest invariant-loop decreases-loop
+part-ahead-start-3 c = omega (arith, (rest-piece c.before.before.before.before).within)
 
-part-ahead-end-3 : tie.Need-slice-bounds-ahead-end-3 invariant-loop decreases-loop
+part-ahead-end-3 : tie.Need-slice_bounds-ahead-end-in-Rest invariant-loop decreases-loop
 part-ahead-end-3 c = search rules
 
-loop-less-3 : tie.Need-loop-smaller-3 invariant-loop decreases-loop
-loop-less-3 c = rw (part_rest _ _) (goes_less (rest-piece c.before.before.before.before.before.before) (λ o. omega arith))
+loop-less-3 : tie.Need-loop-a-smaller invariant-loop decreases-loop
+loop-less-3 c = rw (part_rest _ _) (goes_less (rest-piece c.before.before.before.before.before) (λ o. omega arith))
 
-loop-again-3 : tie.Need-loop-preserved-3 invariant-loop decreases-loop
+loop-again-3 : tie.Need-loop-a-preserved invariant-loop decreases-loop
 loop-again-3 c =
-    let g = rest-piece c.before.before.before.before.before.before in
-    let e = c.before.before.before.put3.ensures in
-    rw (part_rest _ _, e.0, e.1) (g.plain, write_rest c.before.before.before.before.before.before.before.before.before.loop.invariant.1 g.is)
+    let g = rest-piece c.before.before.before.before.before in
+    let e = c.put-r.ensures in
+    rw (part_rest _ _, e.0, e.1) (g.plain, write_rest c.loop-a.invariant.1 g.is)
 
 pub write_spec : {M : Type 1} → statement M
 write_spec =

@@ -1,7 +1,7 @@
 -- `opening::all_enough` meets its contract.
 use mathlib.Core.Path.{sym, ◌∙◌}
 use borrow.Author.Rules.{rules}
-use borrow.Author.Tests.{not_true, not-false}
+use borrow.Author.Tests.{not-true, not-false}
 use Rattle.opening.proofs.all_enough.Statement.{statement}
 use Rattle.opening.proofs.all_enough.Tie as tie
 
@@ -9,7 +9,7 @@ three-enough-requires : tie.Need-three-enough-requires
 three-enough-requires c κs = search rules
 
 returns : tie.Need-returns
-returns c = rw (sym c.before.three-enough.ensures ∙ not_true c.before.three-enough.result c.if1.true)
+returns c = rw (sym c.before.three-enough.ensures ∙ not-true c.before.three-enough.result c.if1.true)
 
 three-enough-requires-2 : tie.Need-three-enough-requires-2
 three-enough-requires-2 c κs = search rules

@@ -1,7 +1,7 @@
 -- `opening::read_with` meets its contract.
 use mathlib.Core.Path.{◌≡◌}
 use borrow.Author.Rules.{rules}
-use borrow.Author.Tests.{not_true, not-false}
+use borrow.Author.Tests.{not-true, not-false}
 use Rattle.opening.proofs.read_with.Statement.{statement}
 use Rattle.opening.proofs.read_with.Tie as tie
 
@@ -9,7 +9,7 @@ refused-requires : tie.Need-refused-requires
 refused-requires c κs = search rules
 
 returns : tie.Need-returns
-returns c = rw (not_true c.before.before.before.args.room c.before.if1.true) c.refused.ensures
+returns c = rw (not-true c.before.before.before.args.room c.before.if1.true) c.refused.ensures
 
 read-requires : tie.Need-read-requires
 read-requires c κs = search rules

@@ -2,7 +2,7 @@
 use mathlib.Core.Path.{◌≡◌, sym, ◌∙◌}
 use mathlib.Core.Bool.{true}
 use native.Mathlib.Omega.{arith}
-use borrow.Author.Tests.{not_true, not-false}
+use borrow.Author.Tests.{not-true, not-false}
 use Rattle.table.specs.Rules.{obeys}
 use Rattle.table.proofs.Obeyed.{servers_few, tasks_few}
 use Rattle.putting.proofs.Rooms.{room_refused, room_written}
@@ -24,7 +24,7 @@ returns c =
     let rules = c.before.before in
     let a = rules.before.before.args in
     let t = rules.obeys-rules in
-    rw c.refused.ensures (writes_broken a.table a.out.now (sym t.ensures ∙ not_true t.result c.before.if1.true))
+    rw c.refused.ensures (writes_broken a.table a.out.now (sym t.ensures ∙ not-true t.result c.before.if1.true))
 
 -- else the table obeys
 obeyed : (c : tie.Else1) → obeys c.before.before.before.args.table ≡ true

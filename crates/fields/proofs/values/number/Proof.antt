@@ -3,7 +3,7 @@ use mathlib.Core.Path.{◌≡◌, sym, ◌∙◌}
 use mathlib.Core.Bool.{true, false}
 use native.Mathlib.Omega.{arith}
 use lib.ListN.{length}
-use borrow.Author.Tests.{eq-eqb, ne_eqb, not_true, not-false, le-leb, lt-leb}
+use borrow.Author.Tests.{eq-eqb, ne_eqb, not-true, not-false, le-leb, lt-leb}
 use Rattle.table.specs.Rules.{all}
 use Rattle.fields.specs.Fields.{is_digit, same_bytes, dash}
 use borrow.Author.Rules.{rules}
@@ -34,7 +34,7 @@ digits-requires c κs = search rules
 
 returns-3 : tie.Need-returns-3
 returns-3 c =
-    rw (ne_eqb _ _ c.before.before.before.before.before.if1.false, no_dash c.before.before, sym c.before.digits.ensures ∙ not_true c.before.digits.result c.if3.true)
+    rw (ne_eqb _ _ c.before.before.before.before.before.if1.false, no_dash c.before.before, sym c.before.digits.ensures ∙ not-true c.before.digits.result c.if3.true)
 
 leading-zero-requires : tie.Need-leading-zero-requires
 leading-zero-requires c κs = omega (arith, c.before.before.before.before.before.if1.false)

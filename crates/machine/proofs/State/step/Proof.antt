@@ -2,7 +2,7 @@
 use mathlib.Core.Path.{◌≡◌, refl, sym, ap, ◌∙◌}
 use mathlib.Core.Bool.{true}
 use borrow.Author.Rules.{rules}
-use borrow.Author.Tests.{not_true, not-false}
+use borrow.Author.Tests.{not-true, not-false}
 use lib.ListN.{length}
 use Rattle.table.proofs.Entries.{length_mapped}
 use Rattle.machine.specs.declared.State.{State}
@@ -31,7 +31,7 @@ refused-requires c κs = search rules
 
 returns : tie.Need-returns
 unfolding step_of
-returns c = rw (sym c.before.before.accepted.ensures ∙ not_true c.before.before.accepted.result c.before.if1.true) c.refused.ensures
+returns c = rw (sym c.before.before.accepted.ensures ∙ not-true c.before.before.accepted.result c.before.if1.true) c.refused.ensures
 
 refill-requires : tie.Need-refill-requires
 refill-requires c κs = ok c

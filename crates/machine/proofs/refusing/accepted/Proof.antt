@@ -4,7 +4,7 @@ use mathlib.Core.Bool.{true}
 use native.Mathlib.Omega.{arith}
 use lib.Dec.{ltb}
 use borrow.Author.Rules.{rules}
-use borrow.Author.Tests.{not_true, not-false, lt-ltb, le-ltb}
+use borrow.Author.Tests.{not-true, not-false, lt-ltb, le-ltb}
 use Rattle.table.specs.Rules.{obeys}
 use Rattle.machine.specs.Machine.{accepts, over_budget}
 use Rattle.table.specs.Places.{none_of}
@@ -27,7 +27,7 @@ obeys-rules-requires c κs = search rules
 
 returns : tie.Need-returns
 unfolding accepts
-returns c = rw (sym c.before.obeys-rules.ensures ∙ not_true c.before.obeys-rules.result c.if1.true)
+returns c = rw (sym c.before.obeys-rules.ensures ∙ not-true c.before.obeys-rules.result c.if1.true)
 
 returns-2 : tie.Need-returns-2
 unfolding accepts
@@ -43,7 +43,7 @@ returns-3 c =
     rw (
       rules-so c.before.before.before.before.before,
       tick-so c.before.before,
-      sym c.before.budgets-within.ensures ∙ not_true c.before.budgets-within.result c.if3.true,
+      sym c.before.budgets-within.ensures ∙ not-true c.before.budgets-within.result c.if3.true,
     )
 
 work-within-requires : tie.Need-work-within-requires

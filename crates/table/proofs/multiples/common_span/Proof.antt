@@ -5,14 +5,14 @@ use borrow.Author.Rules.{rules}
 use Rattle.table.proofs.multiples.common_span.Statement.{statement}
 use Rattle.table.proofs.multiples.common_span.Tie as tie
 
-with-servers-requires : tie.Need-with-servers-requires
+with-servers-requires : tie.Need-with_servers-span-requires
 with-servers-requires c κs = search rules
 
-with-tasks-requires : tie.Need-with-tasks-requires
+with-tasks-requires : tie.Need-with_tasks-requires
 with-tasks-requires c κs = search rules
 
 returns : tie.Need-returns
-returns c = joined_all _ _ (joins_both c.before.with_servers_lem.ensures c.with_tasks_lem.ensures)
+returns c = joined_all _ _ (joins_both c.with_servers-span.ensures c.with_tasks.ensures)
 
-pub common-span-spec : {M : Type 1} → statement M
-common-span-spec = tie.close (tie.spec with-servers-requires with-tasks-requires returns)
+pub common_span_spec : {M : Type 1} → statement M
+common_span_spec = tie.close (tie.spec with-servers-requires with-tasks-requires returns)

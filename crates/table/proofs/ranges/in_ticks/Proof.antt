@@ -4,11 +4,11 @@ use borrow.Author.Tests.{le-leb, lt-leb}
 use Rattle.table.proofs.ranges.in_ticks.Statement.{statement}
 use Rattle.table.proofs.ranges.in_ticks.Tie as tie
 
-returns : tie.Need-returns
-returns c = rw (lt-leb _ _ c.if1.taken)
+returns : tie.Need-returns-then-n-lt1
+returns c = rw (lt-leb _ _ c.if-n-lt1.true)
 
-returns-2 : tie.Need-returns-2
-returns-2 c = rw (le-leb _ _ c.if1.left)
+returns-2 : tie.Need-returns
+returns-2 c = rw (le-leb _ _ c.if-n-lt1.false)
 
-pub in-ticks-spec : {M : Type 1} → statement M
-in-ticks-spec = tie.close (tie.spec returns returns-2)
+pub in_ticks_spec : {M : Type 1} → statement M
+in_ticks_spec = tie.close (tie.spec returns returns-2)

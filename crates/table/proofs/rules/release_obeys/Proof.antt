@@ -5,26 +5,26 @@ use borrow.Author.Rules.{rules}
 use Rattle.table.proofs.rules.release_obeys.Statement.{statement}
 use Rattle.table.proofs.rules.release_obeys.Tie as tie
 
-enum-known-release : tie.Need-enum-known-release
+enum-known-release : tie.Need-enum_known-release
 enum-known-release c = search rules
 
-enum-known-release-2 : tie.Need-enum-known-release-2
+enum-known-release-2 : tie.Need-enum_known-release-in-Every-1
 enum-known-release-2 c = search rules
 
-returns : tie.Need-returns
-returns c = rw (c.before.before.release2.given.1, lt-leb _ _ c.if1.true)
+returns : tie.Need-returns-then-offset-gt16000
+returns c = rw (c.in-Every.is, lt-leb _ _ c.if-offset-gt16000.true)
 
-in-ticks-requires : tie.Need-in-ticks-requires
+in-ticks-requires : tie.Need-in_ticks-requires
 in-ticks-requires c κs = search rules
 
-returns-2 : tie.Need-returns-2
-returns-2 c = rw c.before.release.given.1
+returns-2 : tie.Need-returns-in-Once
+returns-2 c = rw c.in-Once.is
 
-returns-3 : tie.Need-returns-3
-returns-3 c = rw (c.before.before.before.release2.given.1, le-leb _ _ c.before.if1.false) c.in-ticks.ensures
+returns-3 : tie.Need-returns-else-offset-gt16000
+returns-3 c = rw (c.in-Every.is, le-leb _ _ c.if-offset-gt16000.false) c.in_ticks.ensures
 
-pub release-obeys-spec : {M : Type 1} → statement M
-release-obeys-spec =
+pub release_obeys_spec : {M : Type 1} → statement M
+release_obeys_spec =
     tie.close
     (tie.spec
     enum-known-release

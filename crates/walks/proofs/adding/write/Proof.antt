@@ -18,69 +18,69 @@ use borrow.Author.Rules.{rules}
 use Rattle.walks.proofs.adding.write.Statement.{statement}
 use Rattle.walks.proofs.adding.write.Tie as tie
 
-abbrev invariant-loop : tie.invariant-loop
+abbrev invariant-loop : tie.invariant-loop-s
 invariant-loop a b out₀ n₀ place₀ out n place = InBoth a b place × Written (add_up a b) (sum_ahead a b place) out₀ out n × (leb (end_of (sum_ahead a b place)) 1000000 ≡ true)
 
-abbrev decreases-loop : tie.decreases-loop
+abbrev decreases-loop : tie.decreases-loop-s
 decreases-loop a b out₀ n₀ place₀ out n place = length (sum_ahead a b place)
 
 -- the window of a turn
-step : (c : tie.After-s invariant-loop decreases-loop)
-    → Sums c.before.before.before.before.before.before.before.args.a.now c.before.before.before.before.before.before.before.args.b.now c.before.before.before.loop.place c.s.given.0.0 c.s.given.0.1.0 c.s.given.0.1.1.0
-step c = rw c.s.given.1 at c.before.before.next.ensures
+step : (c : tie.In-Window invariant-loop decreases-loop)
+    → Sums c.args.a.now c.args.b.now c.loop-s.place c.in-Window.s c.in-Window.e c.in-Window.next
+step c = rw c.in-Window.is at c.next.ensures
 
 -- there is room for it
-room : (c : tie.After-known-told invariant-loop decreases-loop) → c.before.before.before.before.loop.n + 1 < length c.before.before.before.before.loop.out
-room c = written_room c.before.before.before.before.loop.invariant.1 (step c.before).is
+room : (c : tie.In-Window invariant-loop decreases-loop) → c.loop-s.n + 1 < length c.loop-s.out
+room c = written_room c.loop-s.invariant.1 (step c).is
 
-loop-holds : tie.Need-loop-init invariant-loop decreases-loop
+loop-holds : tie.Need-loop-s-init invariant-loop decreases-loop
 loop-holds c =
-    let p = c.before.before.before.requires in
-    let a = c.before.before.before.args.a.now in
-    let b = c.before.before.before.args.b.now in
+    let p = c.requires in
+    let a = c.args.a.now in
+    let b = c.args.b.now in
     let e = grown_is a b (plain_apart 0 a p.0) (plain_apart 0 b p.1) in
-    let fits = leb (length (add_up a b)) (length c.before.before.before.args.out.now) in
+    let fits = leb (length (add_up a b)) (length c.args.out.now) in
     let ends = leb (end_of (add_up a b)) 1000000 in
     (record { left = p.0; right = p.1 }, rw e (written_none _ _ (leb-true _ _ (and_left fits ends p.2))), rw e (and_right fits ends p.2))
 
 next-requires : tie.Need-next-requires invariant-loop decreases-loop
-next-requires c κs = c.loop.invariant.0
+next-requires c κs = c.loop-s.invariant.0
 
-enum_told : tie.Need-enum-told invariant-loop decreases-loop
+enum_told : tie.Need-enum_told-1 invariant-loop decreases-loop
 enum_told c = search rules
 
-same_length : tie.Need-same-length invariant-loop decreases-loop
+same_length : tie.Need-shape_of-out-in-Done invariant-loop decreases-loop
 same_length c = search rules
 
-returns : tie.Need-returns invariant-loop decreases-loop
-returns c = written_all c.before.before.before.loop.invariant.1 (rw c.enum_told.given.1 at c.before.before.next.ensures)
+returns : tie.Need-returns-in-Done invariant-loop decreases-loop
+returns c = written_all c.loop-s.invariant.1 (rw c.in-Done.is at c.next.ensures)
 
-enum-told-2 : tie.Need-enum-told-2 invariant-loop decreases-loop
+enum-told-2 : tie.Need-enum_told-in-Over invariant-loop decreases-loop
 enum-told-2 c = search rules
 
-same-length-2 : tie.Need-same-length-2 invariant-loop decreases-loop
+same-length-2 : tie.Need-shape_of-out-in-Over invariant-loop decreases-loop
 same-length-2 c = search rules
 
-returns-2 : tie.Need-returns-2 invariant-loop decreases-loop
+returns-2 : tie.Need-returns-in-Over invariant-loop decreases-loop
 returns-2 c =
-    let e : 1000000 < end_of (sum_ahead c.before.before.before.before.before.before.before.args.a.now c.before.before.before.before.before.before.before.args.b.now c.before.before.before.loop.place) = rw c.«enum-told2».given.1 at c.before.before.next.ensures in
-    let h : end_of (sum_ahead c.before.before.before.before.before.before.before.args.a.now c.before.before.before.before.before.before.before.args.b.now c.before.before.before.loop.place) ≤ 1000000 = leb-true _ _ c.before.before.before.loop.invariant.2 in
+    let e : 1000000 < end_of (sum_ahead c.args.a.now c.args.b.now c.loop-s.place) = rw c.in-Over.is at c.next.ensures in
+    let h : end_of (sum_ahead c.args.a.now c.args.b.now c.loop-s.place) ≤ 1000000 = leb-true _ _ c.loop-s.invariant.2 in
     absurd (omega arith)
 
-enum-known-s : tie.Need-enum-known-s invariant-loop decreases-loop
+enum-known-s : tie.Need-enum_known-s invariant-loop decreases-loop
 enum-known-s c = search rules
 
-put-requires : tie.Need-put-requires invariant-loop decreases-loop
+put-requires : tie.Need-put-n-requires invariant-loop decreases-loop
 put-requires c κs = room c.before
 
-loop-less : tie.Need-loop-smaller invariant-loop decreases-loop
-loop-less c = omega (arith, ap length (step c.before.before.before.before.before).is)
+loop-less : tie.Need-loop-s-smaller invariant-loop decreases-loop
+loop-less c = omega (arith, ap length (step c.before.before.before.before).is)
 
-loop-again : tie.Need-loop-preserved invariant-loop decreases-loop
+loop-again : tie.Need-loop-s-preserved invariant-loop decreases-loop
 loop-again c =
-    let k = step c.before.before.before.before.before in
-    let inv = c.before.before.before.before.before.before.before.before.loop.invariant in
-    let e = c.before.before.put.ensures in
+    let k = step c.before.before.before.before in
+    let inv = c.loop-s.invariant in
+    let e = c.put-n.ensures in
     (k.plain, rw (e.0, e.1) (written_pair inv.1 k.is), sym (ends_pair k.is k.bounded) ∙ inv.2)
 
 pub write_spec : {M : Type 1} → statement M
