@@ -11,85 +11,85 @@ use Rattle.windows.proofs.Turns.{drop_pair, drop_odd}
 use Rattle.curves.proofs.plain.Statement.{statement}
 use Rattle.curves.proofs.plain.Tie as tie
 
-abbrev invariant-loop : tie.invariant-loop
+abbrev invariant-loop : tie.invariant-loop-i
 invariant-loop curve low₀ i₀ low i = (i ≤ length curve) × (plain_from low (drop i curve) ≡ is_plain curve)
 
-abbrev decreases-loop : tie.decreases-loop
+abbrev decreases-loop : tie.decreases-loop-i
 decreases-loop curve low₀ i₀ low i = length curve - i
 
-loop-holds : tie.Need-loop-init invariant-loop decreases-loop
+loop-holds : tie.Need-loop-i-init invariant-loop decreases-loop
 loop-holds c = search rules
 
-sub-if1 : tie.Need-overflow-sub-if1 invariant-loop decreases-loop
+sub-if1 : tie.Need-overflow_sub-curve invariant-loop decreases-loop
 sub-if1 c = search rules
 
-returns : tie.Need-returns invariant-loop decreases-loop
+returns : tie.Need-returns-then-curve-i-lt2 invariant-loop decreases-loop
 unfolding plain_from
-returns c = rw (drop_odd _ _ c.before.loop-test.true c.if1.true) at c.before.before.loop.invariant.1
+returns c = rw (drop_odd _ _ c.loop-i-test.true c.if-curve-i-lt2.true) at c.loop-i.invariant.1
 
-mul-s : tie.Need-overflow-mul-s invariant-loop decreases-loop
+mul-s : tie.Need-offset_bounds-curve-i invariant-loop decreases-loop
 mul-s c = search rules
 
-shared-slice-read-s : tie.Need-shared-slice-read-s invariant-loop decreases-loop
+shared-slice-read-s : tie.Need-bounds-curve-i invariant-loop decreases-loop
 shared-slice-read-s c = search rules
 
-add-e : tie.Need-overflow-add-e invariant-loop decreases-loop
+add-e : tie.Need-overflow_add-e invariant-loop decreases-loop
 add-e c = search rules
 
-mul-e : tie.Need-overflow-mul-e invariant-loop decreases-loop
+mul-e : tie.Need-offset_bounds-curve-i-in-loop-i invariant-loop decreases-loop
 mul-e c = search rules
 
-shared-slice-read-e : tie.Need-shared-slice-read-e invariant-loop decreases-loop
+shared-slice-read-e : tie.Need-bounds-curve-i-in-loop-i invariant-loop decreases-loop
 shared-slice-read-e c = search rules
 
-returns-2 : tie.Need-returns-2 invariant-loop decreases-loop
+returns-2 : tie.Need-returns-then-s-low invariant-loop decreases-loop
 unfolding plain_from
 returns-2 c =
-    rw (drop_pair _ _ c.before.before.before.if1.false, lt-leb _ _ c.if2.true)
-    at c.before.before.before.before.before.loop.invariant.1
+    rw (drop_pair _ _ c.if-curve-i-lt2.false, lt-leb _ _ c.if-s-low.true)
+    at c.loop-i.invariant.1
 
-returns-3 : tie.Need-returns-3 invariant-loop decreases-loop
+returns-3 : tie.Need-returns-then-e-s invariant-loop decreases-loop
 unfolding plain_from
 returns-3 c =
-    let l = c.before.before.before.before.before.before.before.args.curve.now in
-    let i = c.before.before.before.before.before.before.loop.i in
-    rw (drop_pair _ _ c.before.before.before.before.if1.false, le-leb _ _ c.before.if2.false, le-ltb (get_or l i 0) (get_or l (i + 1) 0) (omega (arith, c.if3.true)))
-    at c.before.before.before.before.before.before.loop.invariant.1
+    let l = c.args.curve.now in
+    let i = c.loop-i.i in
+    rw (drop_pair _ _ c.if-curve-i-lt2.false, le-leb _ _ c.if-s-low.false, le-ltb (get_or l i 0) (get_or l (i + 1) 0) (omega (arith, c.if-e-s.true)))
+    at c.loop-i.invariant.1
 
-returns-4 : tie.Need-returns-4 invariant-loop decreases-loop
+returns-4 : tie.Need-returns-then-e-gt-LIMIT invariant-loop decreases-loop
 unfolding plain_from
 returns-4 c =
-    let l = c.before.before.before.before.before.before.before.before.args.curve.now in
-    let i = c.before.before.before.before.before.before.before.loop.i in
-    rw (drop_pair _ _ c.before.before.before.before.before.if1.false, lt-leb (get_or l (i + 1) 0) 1000000 (omega (arith, c.if4.true)), and-false, and-false)
-    at c.before.before.before.before.before.before.before.loop.invariant.1
+    let l = c.args.curve.now in
+    let i = c.loop-i.i in
+    rw (drop_pair _ _ c.if-curve-i-lt2.false, lt-leb (get_or l (i + 1) 0) 1000000 (omega (arith, c.if-e-gt-LIMIT.true)), and-false, and-false)
+    at c.loop-i.invariant.1
 
-add_low : tie.Need-overflow-add-low invariant-loop decreases-loop
+add_low : tie.Need-overflow_add-low invariant-loop decreases-loop
 add_low c = search rules
 
-add-i : tie.Need-overflow-add-i invariant-loop decreases-loop
+add-i : tie.Need-overflow_add-i invariant-loop decreases-loop
 add-i c = search rules
 
-loop-less : tie.Need-loop-smaller invariant-loop decreases-loop
+loop-less : tie.Need-loop-i-smaller invariant-loop decreases-loop
 loop-less c = search rules
 
-loop-again : tie.Need-loop-preserved invariant-loop decreases-loop
+loop-again : tie.Need-loop-i-preserved invariant-loop decreases-loop
 unfolding plain_from
 loop-again c =
-    let l = c.before.before.before.before.before.before.before.before.args.curve.now in
-    let i = c.before.before.before.before.before.before.before.loop.i in
-    let within = le-leb (get_or l (i + 1) 0) 1000000 (omega (arith, c.if4.false)) in (
+    let l = c.args.curve.now in
+    let i = c.loop-i.i in
+    let within = le-leb (get_or l (i + 1) 0) 1000000 (omega (arith, c.if-e-gt-LIMIT.false)) in (
       omega arith,
-      rw (drop_pair _ _ c.before.before.before.before.before.if1.false, le-leb _ _ c.before.before.if2.false, lt-ltb _ _ c.before.if3.false, within)
-          at c.before.before.before.before.before.before.before.loop.invariant.1,
+      rw (drop_pair _ _ c.if-curve-i-lt2.false, le-leb _ _ c.if-s-low.false, lt-ltb _ _ c.if-e-s.false, within)
+          at c.loop-i.invariant.1,
     )
 
-returns-5 : tie.Need-returns-5 invariant-loop decreases-loop
+returns-5 : tie.Need-returns invariant-loop decreases-loop
 unfolding plain_from
-returns-5 c = rw (drop_of_length-le _ c.loop-test.false) at c.before.loop.invariant.1
+returns-5 c = rw (drop_of_length-le _ c.loop-i-test.false) at c.loop-i.invariant.1
 
-pub plain-spec : {M : Type 1} → statement M
-plain-spec =
+pub plain_spec : {M : Type 1} → statement M
+plain_spec =
     tie.close
     (tie.spec
     invariant-loop

@@ -90,7 +90,7 @@ stretch-requires c κs =
     let w = (offers c.before.before.before.before.before).front in
     record {
       plain = (start c.before.before.before.before.before).requires.demand;
-      some = (wanting c.before.before.before.before.before).if1.false;
+      some = (wanting c.before.before.before.before.before).if-demand-at.false;
       starts = rw (← q) c.if-s-q.false;
       below = rw s w.rises;
       bounded = w.bounded;
