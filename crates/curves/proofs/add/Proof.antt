@@ -25,8 +25,8 @@ right_so c = sym c.plain-2.ensures ∙ c.if-not-plain-2.false
 
 -- past the count, the sum fits and ends in time
 fits-so : (c : tie.Else-not-fits)
-    → let s = (start-2 c.before.before).args in fits_in (add_up s.a.now s.b.now) (length s.out-1.now) ≡ true
-fits-so c = sym c.fits2.ensures ∙ c.if-not-fits.false
+    → let s = (start-2 c.before.before).args in fits_in (add_up s.a.now s.b.now) (length s.out.now) ≡ true
+fits-so c = sym c.fits.ensures ∙ c.if-not-fits.false
 
 plain-requires : tie.Need-plain-requires
 plain-requires c κs = search rules
@@ -58,7 +58,7 @@ refused-requires-3 c κs = search rules
 
 returns-3 : tie.Need-returns-then-not-fits
 returns-3 c =
-    let t = c.fits2 in
+    let t = c.fits in
     rw (left_so c.before.before.before.before.before, right_so c.before.before.before, sym t.ensures ∙ c.if-not-fits.true, c.refused-then-not-fits.ensures) (record { answer_is = refl; buffer = refl })
 
 write-requires : tie.Need-write-requires

@@ -25,8 +25,8 @@ ends_so c = le-leb _ _ (cut_end (start c).args.period 0 1000000 _ (plain_apart 0
 
 -- past the count, it fits
 fits-so : (c : tie.Else-not-fits)
-    → let s = (start c.before.before).args in leb (length (cut_at s.period s.curve.now)) (length s.out-1.now) ≡ true
-fits-so c = sym c.fits2.ensures ∙ c.if-not-fits.false
+    → let s = (start c.before.before).args in leb (length (cut_at s.period s.curve.now)) (length s.out.now) ≡ true
+fits-so c = sym c.fits.ensures ∙ c.if-not-fits.false
 
 refused-requires : tie.Need-refused-requires
 refused-requires c κs = search rules
@@ -53,7 +53,7 @@ refused-requires-3 c κs = search rules
 
 returns-3 : tie.Need-returns-then-not-fits
 returns-3 c =
-    let t = c.fits2 in
+    let t = c.fits in
     rw (ne_eqb _ _ c.if-period-eq0.false, plain-so c.before.before.before, sym t.ensures ∙ c.if-not-fits.true, c.refused-then-not-fits.ensures) (record { answer_is = refl; buffer = refl })
 
 write-requires : tie.Need-write-requires

@@ -35,10 +35,10 @@ count-so : (c : tie.Else-not-plain-2) → tested fits_all (start-2 c) ≡ tested
 count-so c = fits_rooms _ _ _ _ _ (demand-so c.before.before) (supply-so c)
 
 full-so : (c : tie.Then-not-fits) → tested fit_rooms (start-2 c.before.before) ≡ false
-full-so c = sym c.fits2.ensures ∙ c.if-not-fits.true
+full-so c = sym c.fits.ensures ∙ c.if-not-fits.true
 
 fits-so : (c : tie.Else-not-fits) → tested fit_rooms (start-2 c.before.before) ≡ true
-fits-so c = sym c.fits2.ensures ∙ c.if-not-fits.false
+fits-so c = sym c.fits.ensures ∙ c.if-not-fits.false
 
 plain-requires : tie.Need-plain-requires
 plain-requires c κs = search rules
@@ -90,7 +90,7 @@ returns-4 c =
     let n = c.write-n.ensures.0 in
     let buffers = c.write-n.ensures.1 in
     rw (demand-so c.before.before.before.before.before.before.before.before.before.before.before.before.before.before, supply-so c.before.before.before.before.before.before.before.before.before.before.before.before, count-so c.before.before.before.before.before.before.before.before.before.before.before.before ∙ fits-so c.before.before.before.before.before.before.before.before.before.before)
-    (rw (n.left-1, n.served-1, n.rest-1), buffers.0, buffers.1.0, buffers.1.1)
+    (rw (n.left, n.served, n.rest), buffers.0, buffers.1.0, buffers.1.1)
 
 pub fit_spec : {M : Type 1} → statement M
 fit_spec =
