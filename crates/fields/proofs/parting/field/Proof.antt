@@ -10,54 +10,54 @@ use borrow.Author.Rules.{rules}
 use Rattle.fields.proofs.parting.field.Statement.{statement}
 use Rattle.fields.proofs.parting.field.Tie as tie
 
-abbrev invariant-loop : tie.invariant-loop
+abbrev invariant-loop : tie.invariant-loop-k
 invariant-loop line skip rest₀ k₀ rest k = Behind line skip rest k
 
-abbrev decreases-loop : tie.decreases-loop
+abbrev decreases-loop : tie.decreases-loop-k
 decreases-loop line skip rest₀ k₀ rest k = skip - k
 
 -- the tab of a turn
-tab : (c : tie.In-loop invariant-loop decreases-loop) → first_length 9 c.before.loop.rest.now < length c.before.loop.rest.now
-tab c = behind_tab c.before.loop.invariant c.loop-test.true
+tab : (c : tie.In-loop-k invariant-loop decreases-loop) → first_length 9 c.loop-k.rest.now < length c.loop-k.rest.now
+tab c = behind_tab c.loop-k.invariant c.loop-k-test.true
 
-loop-holds : tie.Need-loop-init invariant-loop decreases-loop
-loop-holds c = behind_none _ _ c.before.requires
+loop-holds : tie.Need-loop-k-init invariant-loop decreases-loop
+loop-holds c = behind_none _ _ c.requires
 
-piece-length-requires : tie.Need-piece-length-requires invariant-loop decreases-loop
+piece-length-requires : tie.Need-piece_length-n-requires invariant-loop decreases-loop
 piece-length-requires c κs = search rules
 
-add-n : tie.Need-overflow-add-n invariant-loop decreases-loop
-add-n c = omega (arith, tab c.before, c.piece-length.ensures, c.before.before.loop.invariant.short)
+add-n : tie.Need-overflow_add-n invariant-loop decreases-loop
+add-n c = omega (arith, tab c.before, c.piece_length-n.ensures, c.loop-k.invariant.short)
 
-sub-rest : tie.Need-overflow-sub-rest invariant-loop decreases-loop
-sub-rest c = omega (arith, tab c.before, c.piece-length.ensures)
+sub-rest : tie.Need-slice_bounds-rest-count invariant-loop decreases-loop
+sub-rest c = omega (arith, tab c.before, c.piece_length-n.ensures)
 
-part-rest-start : tie.Need-slice-bounds-rest-start invariant-loop decreases-loop
-part-rest-start c = omega (arith, tab c.before, c.piece-length.ensures)
+part-rest-start : tie.Need-slice_bounds-rest-start invariant-loop decreases-loop
+part-rest-start c = omega (arith, tab c.before, c.piece_length-n.ensures)
 
-part-rest-end : tie.Need-slice-bounds-rest-end invariant-loop decreases-loop
+part-rest-end : tie.Need-slice_bounds-rest-end invariant-loop decreases-loop
 part-rest-end c = search rules
 
-add-k : tie.Need-overflow-add-k invariant-loop decreases-loop
+add-k : tie.Need-overflow_add-k invariant-loop decreases-loop
 add-k c = search rules
 
-loop-less : tie.Need-loop-smaller invariant-loop decreases-loop
+loop-less : tie.Need-loop-k-smaller invariant-loop decreases-loop
 loop-less c = search rules
 
-loop-again : tie.Need-loop-preserved invariant-loop decreases-loop
-loop-again c = rw (part_rest _ _, c.before.piece-length.ensures) (behind_more c.before.before.before.loop.invariant c.before.before.loop-test.true)
+loop-again : tie.Need-loop-k-preserved invariant-loop decreases-loop
+loop-again c = rw (part_rest _ _, c.piece_length-n.ensures) (behind_more c.loop-k.invariant c.loop-k-test.true)
 
-piece-length-requires-2 : tie.Need-piece-length-requires-2 invariant-loop decreases-loop
+piece-length-requires-2 : tie.Need-piece_length-n-requires-2 invariant-loop decreases-loop
 piece-length-requires-2 c κs = search rules
 
-slice-aggregate-result : tie.Need-slice-aggregate-result invariant-loop decreases-loop
-slice-aggregate-result c = rw c.before.piece-length2.ensures (sym (length-take-le _ _ (first_within 9 _)))
+slice-aggregate-result : tie.Need-slice_bounds-result-end invariant-loop decreases-loop
+slice-aggregate-result c = rw c.piece_length-n-2.ensures (sym (length-take-le _ _ (first_within 9 _)))
 
 returns : tie.Need-returns invariant-loop decreases-loop
-returns c = rw c.before.piece-length2.ensures (behind_all c.before.before.before.loop.invariant c.before.before.loop-test.false)
+returns c = rw c.piece_length-n-2.ensures (behind_all c.loop-k.invariant c.loop-k-test.false)
 
-pub field-spec : {M : Type 1} → statement M
-field-spec =
+pub field_spec : {M : Type 1} → statement M
+field_spec =
     tie.close
     (tie.spec
     invariant-loop

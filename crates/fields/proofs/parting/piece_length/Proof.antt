@@ -10,35 +10,35 @@ use borrow.Author.Rules.{rules}
 use Rattle.fields.proofs.parting.piece_length.Statement.{statement}
 use Rattle.fields.proofs.parting.piece_length.Tie as tie
 
-abbrev invariant-loop : tie.invariant-loop
+abbrev invariant-loop : tie.invariant-loop-i
 invariant-loop bytes separator i₀ i = (i ≤ length bytes) × (i + first_length separator (drop i bytes) ≡ first_length separator bytes)
 
-abbrev decreases-loop : tie.decreases-loop
+abbrev decreases-loop : tie.decreases-loop-i
 decreases-loop bytes separator i₀ i = length bytes - i
 
-loop-holds : tie.Need-loop-init invariant-loop decreases-loop
+loop-holds : tie.Need-loop-i-init invariant-loop decreases-loop
 loop-holds c = (omega arith, omega arith)
 
-shared-slice-read-if1 : tie.Need-shared-slice-read-if1 invariant-loop decreases-loop
+shared-slice-read-if1 : tie.Need-bounds-bytes-i invariant-loop decreases-loop
 shared-slice-read-if1 c = search rules
 
-returns : tie.Need-returns invariant-loop decreases-loop
-returns c = omega (arith, c.before.before.before.loop.invariant.1, first_here c.before.before.before.before.args.separator c.before.before.before.before.args.bytes.now c.before.before.before.loop.i c.before.before.loop-test.true c.if1.true)
+returns : tie.Need-returns-then-bytes-i invariant-loop decreases-loop
+returns c = omega (arith, c.loop-i.invariant.1, first_here c.args.separator c.args.bytes.now c.loop-i.i c.loop-i-test.true c.if-bytes-i.true)
 
-add-i : tie.Need-overflow-add-i invariant-loop decreases-loop
+add-i : tie.Need-overflow_add-i invariant-loop decreases-loop
 add-i c = search rules
 
-loop-less : tie.Need-loop-smaller invariant-loop decreases-loop
+loop-less : tie.Need-loop-i-smaller invariant-loop decreases-loop
 loop-less c = search rules
 
-loop-again : tie.Need-loop-preserved invariant-loop decreases-loop
-loop-again c = (omega arith, omega (arith, c.before.before.before.loop.invariant.1, first_next c.before.before.before.before.args.separator c.before.before.before.before.args.bytes.now c.before.before.before.loop.i c.before.before.loop-test.true c.if1.false))
+loop-again : tie.Need-loop-i-preserved invariant-loop decreases-loop
+loop-again c = (omega arith, omega (arith, c.loop-i.invariant.1, first_next c.args.separator c.args.bytes.now c.loop-i.i c.loop-i-test.true c.if-bytes-i.false))
 
-returns-2 : tie.Need-returns-2 invariant-loop decreases-loop
-returns-2 c = omega (arith, c.before.loop.invariant.1, first_end c.before.before.args.separator c.before.before.args.bytes.now c.before.loop.i c.loop-test.false)
+returns-2 : tie.Need-returns invariant-loop decreases-loop
+returns-2 c = omega (arith, c.loop-i.invariant.1, first_end c.args.separator c.args.bytes.now c.loop-i.i c.loop-i-test.false)
 
-pub piece-length-spec : {M : Type 1} → statement M
-piece-length-spec =
+pub piece_length_spec : {M : Type 1} → statement M
+piece_length_spec =
     tie.close
     (tie.spec
     invariant-loop

@@ -10,38 +10,38 @@ use borrow.Author.Rules.{rules}
 use Rattle.fields.proofs.parting.same.Statement.{statement}
 use Rattle.fields.proofs.parting.same.Tie as tie
 
-abbrev invariant-loop : tie.invariant-loop
+abbrev invariant-loop : tie.invariant-loop-i
 invariant-loop a b i₀ i = same_bytes a b ≡ same_bytes (drop i a) (drop i b)
 
-abbrev decreases-loop : tie.decreases-loop
+abbrev decreases-loop : tie.decreases-loop-i
 decreases-loop a b i₀ i = length a - i
 
-returns : tie.Need-returns invariant-loop decreases-loop
-returns c = sym (same_lengths _ _ c.if1.true)
+returns : tie.Need-returns-then-a-b invariant-loop decreases-loop
+returns c = sym (same_lengths _ _ c.if-a-b.true)
 
-loop-holds : tie.Need-loop-init invariant-loop decreases-loop
+loop-holds : tie.Need-loop-i-init invariant-loop decreases-loop
 loop-holds c = refl
 
-shared-slice-read-if2 : tie.Need-shared-slice-read-if2 invariant-loop decreases-loop
+shared-slice-read-if2 : tie.Need-bounds-a-i invariant-loop decreases-loop
 shared-slice-read-if2 c = search rules
 
-shared-slice-read-if2-2 : tie.Need-shared-slice-read-if2-2 invariant-loop decreases-loop
+shared-slice-read-if2-2 : tie.Need-bounds-b-i invariant-loop decreases-loop
 shared-slice-read-if2-2 c = search rules
 
-returns-2 : tie.Need-returns-2 invariant-loop decreases-loop
-returns-2 c = sym (c.before.before.before.before.loop.invariant ∙ same_turn _ _ c.before.before.before.before.loop.i (omega arith) (omega arith) ∙ rw (ne_eqb _ _ c.if2.true))
+returns-2 : tie.Need-returns-then-a-i invariant-loop decreases-loop
+returns-2 c = sym (c.loop-i.invariant ∙ same_turn _ _ c.loop-i.i (omega arith) (omega arith) ∙ rw (ne_eqb _ _ c.if-a-i.true))
 
-add-i : tie.Need-overflow-add-i invariant-loop decreases-loop
+add-i : tie.Need-overflow_add-i invariant-loop decreases-loop
 add-i c = search rules
 
-loop-less : tie.Need-loop-smaller invariant-loop decreases-loop
+loop-less : tie.Need-loop-i-smaller invariant-loop decreases-loop
 loop-less c = search rules
 
-loop-again : tie.Need-loop-preserved invariant-loop decreases-loop
-loop-again c = c.before.before.before.before.loop.invariant ∙ same_turn _ _ c.before.before.before.before.loop.i (omega arith) (omega arith) ∙ rw (eq-eqb _ _ c.if2.false)
+loop-again : tie.Need-loop-i-preserved invariant-loop decreases-loop
+loop-again c = c.loop-i.invariant ∙ same_turn _ _ c.loop-i.i (omega arith) (omega arith) ∙ rw (eq-eqb _ _ c.if-a-i.false)
 
-returns-3 : tie.Need-returns-3 invariant-loop decreases-loop
-returns-3 c = sym (c.before.loop.invariant ∙ same_end _ _ c.before.loop.i (omega arith) (omega arith))
+returns-3 : tie.Need-returns invariant-loop decreases-loop
+returns-3 c = sym (c.loop-i.invariant ∙ same_end _ _ c.loop-i.i (omega arith) (omega arith))
 
 pub same_spec : {M : Type 1} → statement M
 same_spec =

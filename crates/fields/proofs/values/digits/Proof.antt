@@ -10,42 +10,42 @@ use borrow.Author.Rules.{rules}
 use Rattle.fields.proofs.values.digits.Statement.{statement}
 use Rattle.fields.proofs.values.digits.Tie as tie
 
-abbrev invariant-loop : tie.invariant-loop
+abbrev invariant-loop : tie.invariant-loop-i
 invariant-loop field i₀ i = all is_digit field ≡ all is_digit (drop i field)
 
-abbrev decreases-loop : tie.decreases-loop
+abbrev decreases-loop : tie.decreases-loop-i
 decreases-loop field i₀ i = length field - i
 
-loop-holds : tie.Need-loop-init invariant-loop decreases-loop
+loop-holds : tie.Need-loop-i-init invariant-loop decreases-loop
 loop-holds c = refl
 
-shared-slice-read-if1 : tie.Need-shared-slice-read-if1 invariant-loop decreases-loop
+shared-slice-read-if1 : tie.Need-bounds-field-i invariant-loop decreases-loop
 shared-slice-read-if1 c = search rules
 
-returns : tie.Need-returns invariant-loop decreases-loop
-returns c = sym (c.before.before.before.loop.invariant ∙ digit_here _ c.before.before.before.loop.i c.before.before.loop-test.true ∙ rw (lt-leb _ _ c.if1.true))
+returns : tie.Need-returns-then-field-i-lt48 invariant-loop decreases-loop
+returns c = sym (c.loop-i.invariant ∙ digit_here _ c.loop-i.i c.loop-i-test.true ∙ rw (lt-leb _ _ c.if-field-i-lt48.true))
 
-shared-slice-read-if2 : tie.Need-shared-slice-read-if2 invariant-loop decreases-loop
+shared-slice-read-if2 : tie.Need-bounds-field-i-in-loop-i invariant-loop decreases-loop
 shared-slice-read-if2 c = search rules
 
-returns-2 : tie.Need-returns-2 invariant-loop decreases-loop
+returns-2 : tie.Need-returns-then-field-i-gt57 invariant-loop decreases-loop
 returns-2 c =
-    sym (c.before.before.before.before.before.loop.invariant ∙ digit_here _ c.before.before.before.before.before.loop.i c.before.before.before.before.loop-test.true ∙ rw (le-leb _ _ c.before.before.if1.false, lt-leb _ _ c.if2.true))
+    sym (c.loop-i.invariant ∙ digit_here _ c.loop-i.i c.loop-i-test.true ∙ rw (le-leb _ _ c.if-field-i-lt48.false, lt-leb _ _ c.if-field-i-gt57.true))
 
-add-i : tie.Need-overflow-add-i invariant-loop decreases-loop
+add-i : tie.Need-overflow_add-i invariant-loop decreases-loop
 add-i c = search rules
 
-loop-less : tie.Need-loop-smaller invariant-loop decreases-loop
+loop-less : tie.Need-loop-i-smaller invariant-loop decreases-loop
 loop-less c = search rules
 
-loop-again : tie.Need-loop-preserved invariant-loop decreases-loop
-loop-again c = c.before.before.before.before.before.loop.invariant ∙ digit_here _ c.before.before.before.before.before.loop.i c.before.before.before.before.loop-test.true ∙ rw (le-leb _ _ c.before.before.if1.false, le-leb _ _ c.if2.false)
+loop-again : tie.Need-loop-i-preserved invariant-loop decreases-loop
+loop-again c = c.loop-i.invariant ∙ digit_here _ c.loop-i.i c.loop-i-test.true ∙ rw (le-leb _ _ c.if-field-i-lt48.false, le-leb _ _ c.if-field-i-gt57.false)
 
-returns-3 : tie.Need-returns-3 invariant-loop decreases-loop
-returns-3 c = sym (c.before.loop.invariant ∙ digit_end _ c.before.loop.i c.loop-test.false)
+returns-3 : tie.Need-returns invariant-loop decreases-loop
+returns-3 c = sym (c.loop-i.invariant ∙ digit_end _ c.loop-i.i c.loop-i-test.false)
 
-pub digits-spec : {M : Type 1} → statement M
-digits-spec =
+pub digits_spec : {M : Type 1} → statement M
+digits_spec =
     tie.close
     (tie.spec
     invariant-loop

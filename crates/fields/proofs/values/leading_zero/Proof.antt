@@ -4,14 +4,14 @@ use borrow.Author.Rules.{rules}
 use Rattle.fields.proofs.values.leading_zero.Statement.{statement}
 use Rattle.fields.proofs.values.leading_zero.Tie as tie
 
-shared-slice-read-if1 : tie.Need-shared-slice-read-if1
+shared-slice-read-if1 : tie.Need-bounds-field-0
 shared-slice-read-if1 c = search rules
 
-returns : tie.Need-returns
-returns c = rw (ne_eqb _ _ c.if1.true)
+returns : tie.Need-returns-then-field-ne48
+returns c = rw (ne_eqb _ _ c.if-field-ne48.true)
 
-returns-2 : tie.Need-returns-2
-returns-2 c = rw (eq-eqb _ _ c.if1.false)
+returns-2 : tie.Need-returns
+returns-2 c = rw (eq-eqb _ _ c.if-field-ne48.false)
 
-pub leading-zero-spec : {M : Type 1} → statement M
-leading-zero-spec = tie.close (tie.spec shared-slice-read-if1 returns returns-2)
+pub leading_zero_spec : {M : Type 1} → statement M
+leading_zero_spec = tie.close (tie.spec shared-slice-read-if1 returns returns-2)

@@ -11,67 +11,63 @@ use Rattle.fields.proofs.values.number.Statement.{statement}
 use Rattle.fields.proofs.values.number.Tie as tie
 
 -- past the first tests every byte is a digit
-no_dash : (c : tie.Else2) → same_bytes c.before.before.before.before.before.args.field.now dash ≡ false
-no_dash c = sym c.before.same.ensures ∙ c.if2.false
+no_dash : (c : tie.Else-same) → same_bytes c.args.field.now dash ≡ false
+no_dash c = sym c.same.ensures ∙ c.if-same.false
 
-digits-so : (c : tie.Else3) → all is_digit c.before.before.before.before.before.before.before.args.field.now ≡ true
-digits-so c = sym c.before.digits.ensures ∙ not-false c.before.digits.result c.if3.false
+digits-so : (c : tie.Else-not-digits) → all is_digit c.args.field.now ≡ true
+digits-so c = sym c.digits.ensures ∙ c.if-not-digits.false
 
-returns : tie.Need-returns
-returns c = rw (eq-eqb _ _ c.if1.true)
-
-slice-aggregate-same : tie.Need-slice-aggregate-same
-slice-aggregate-same c = search rules
+returns : tie.Need-returns-then-field-eq0
+returns c = rw (eq-eqb _ _ c.if-field-eq0.true)
 
 same-requires : tie.Need-same-requires
 same-requires c κs = search rules
 
-returns-2 : tie.Need-returns-2
-returns-2 c = rw (ne_eqb _ _ c.before.before.before.if1.false, sym c.before.same.ensures ∙ c.if2.true)
+returns-2 : tie.Need-returns-then-same
+returns-2 c = rw (ne_eqb _ _ c.if-field-eq0.false, sym c.same.ensures ∙ c.if-same.true)
 
 digits-requires : tie.Need-digits-requires
 digits-requires c κs = search rules
 
-returns-3 : tie.Need-returns-3
+returns-3 : tie.Need-returns-then-not-digits
 returns-3 c =
-    rw (ne_eqb _ _ c.before.before.before.before.before.if1.false, no_dash c.before.before, sym c.before.digits.ensures ∙ not-true c.before.digits.result c.if3.true)
+    rw (ne_eqb _ _ c.if-field-eq0.false, no_dash c.before.before, sym c.digits.ensures ∙ c.if-not-digits.true)
 
-leading-zero-requires : tie.Need-leading-zero-requires
-leading-zero-requires c κs = omega (arith, c.before.before.before.before.before.if1.false)
+leading-zero-requires : tie.Need-leading_zero-requires
+leading-zero-requires c κs = omega (arith, c.if-field-eq0.false)
 
-returns-4 : tie.Need-returns-4
+returns-4 : tie.Need-returns-then-leading_zero
 returns-4 c =
-    rw (ne_eqb _ _ c.before.before.before.before.before.before.before.if1.false, no_dash c.before.before.before.before, digits-so c.before.before, sym c.before.leading-zero.ensures ∙ c.if4.true)
+    rw (ne_eqb _ _ c.if-field-eq0.false, no_dash c.before.before.before.before, digits-so c.before.before, sym c.leading_zero.ensures ∙ c.if-leading_zero.true)
 
-returns-5 : tie.Need-returns-5
+returns-5 : tie.Need-returns-then-field-gt5
 returns-5 c =
     rw (
-      ne_eqb _ _ c.before.before.before.before.before.before.before.before.if1.false,
+      ne_eqb _ _ c.if-field-eq0.false,
       no_dash c.before.before.before.before.before,
       digits-so c.before.before.before,
-      sym c.before.before.leading-zero.ensures ∙ c.before.if4.false,
-      lt-leb (length c.before.before.before.before.before.before.before.before.before.before.args.field.now) 5 (omega (arith, c.if5.true)),
+      sym c.leading_zero.ensures ∙ c.if-leading_zero.false,
+      lt-leb (length c.args.field.now) 5 (omega (arith, c.if-field-gt5.true)),
     )
 
 value-requires : tie.Need-value-requires
-value-requires c κs = (digits-so c.before.before.before, c.if5.false)
+value-requires c κs = (digits-so c.before.before.before, c.if-field-gt5.false)
 
-returns-6 : tie.Need-returns-6
+returns-6 : tie.Need-returns
 returns-6 c =
     rw (
-      ne_eqb _ _ c.before.before.before.before.before.before.before.before.before.if1.false,
+      ne_eqb _ _ c.if-field-eq0.false,
       no_dash c.before.before.before.before.before.before,
       digits-so c.before.before.before.before,
-      sym c.before.before.before.leading-zero.ensures ∙ c.before.before.if4.false,
-      le-leb _ _ c.before.if5.false,
+      sym c.leading_zero.ensures ∙ c.if-leading_zero.false,
+      le-leb _ _ c.if-field-gt5.false,
     ) (rw c.value.ensures)
 
-pub number-spec : {M : Type 1} → statement M
-number-spec =
+pub number_spec : {M : Type 1} → statement M
+number_spec =
     tie.close
     (tie.spec
     returns
-    slice-aggregate-same
     same-requires
     returns-2
     digits-requires

@@ -4,80 +4,64 @@ use borrow.Author.Rules.{rules}
 use Rattle.fields.proofs.values.word.Statement.{statement}
 use Rattle.fields.proofs.values.word.Tie as tie
 
-slice-aggregate-same : tie.Need-slice-aggregate-same
-slice-aggregate-same c = search rules
-
 same-requires : tie.Need-same-requires
 same-requires c κs = search rules
 
-returns : tie.Need-returns
-returns c = rw (sym c.before.same.ensures ∙ c.if1.true)
-
-slice-aggregate-same-2 : tie.Need-slice-aggregate-same-2
-slice-aggregate-same-2 c = search rules
+returns : tie.Need-returns-then-same
+returns c = rw (sym c.same.ensures ∙ c.if-same.true)
 
 same-requires-2 : tie.Need-same-requires-2
 same-requires-2 c κs = search rules
 
-returns-2 : tie.Need-returns-2
+returns-2 : tie.Need-returns-then-same-2
 returns-2 c =
     rw (
-      sym c.before.before.before.before.same.ensures ∙ c.before.before.before.if1.false,
-      sym c.before.same2.ensures ∙ c.if2.true,
+      sym c.same.ensures ∙ c.if-same.false,
+      sym c.same-2.ensures ∙ c.if-same-2.true,
     )
-
-slice-aggregate-same-3 : tie.Need-slice-aggregate-same-3
-slice-aggregate-same-3 c = search rules
 
 same-requires-3 : tie.Need-same-requires-3
 same-requires-3 c κs = search rules
 
-returns-3 : tie.Need-returns-3
+returns-3 : tie.Need-returns-then-same-3
 returns-3 c =
     rw (
-      sym c.before.before.before.before.before.before.before.same.ensures ∙ c.before.before.before.before.before.before.if1.false,
-      sym c.before.before.before.before.same2.ensures ∙ c.before.before.before.if2.false,
-      sym c.before.same3.ensures ∙ c.if3.true,
+      sym c.same.ensures ∙ c.if-same.false,
+      sym c.same-2.ensures ∙ c.if-same-2.false,
+      sym c.same-3.ensures ∙ c.if-same-3.true,
     )
-
-slice-aggregate-same-4 : tie.Need-slice-aggregate-same-4
-slice-aggregate-same-4 c = search rules
 
 same-requires-4 : tie.Need-same-requires-4
 same-requires-4 c κs = search rules
 
-returns-4 : tie.Need-returns-4
+returns-4 : tie.Need-returns-then-same-4
 returns-4 c =
     rw (
-      sym c.before.before.before.before.before.before.before.before.before.before.same.ensures ∙ c.before.before.before.before.before.before.before.before.before.if1.false,
-      sym c.before.before.before.before.before.before.before.same2.ensures ∙ c.before.before.before.before.before.before.if2.false,
-      sym c.before.before.before.before.same3.ensures ∙ c.before.before.before.if3.false,
-      sym c.before.same4.ensures ∙ c.if4.true,
+      sym c.same.ensures ∙ c.if-same.false,
+      sym c.same-2.ensures ∙ c.if-same-2.false,
+      sym c.same-3.ensures ∙ c.if-same-3.false,
+      sym c.same-4.ensures ∙ c.if-same-4.true,
     )
 
-returns-5 : tie.Need-returns-5
+returns-5 : tie.Need-returns
 returns-5 c =
     rw (
-      sym c.before.before.before.before.before.before.before.before.before.before.same.ensures ∙ c.before.before.before.before.before.before.before.before.before.if1.false,
-      sym c.before.before.before.before.before.before.before.same2.ensures ∙ c.before.before.before.before.before.before.if2.false,
-      sym c.before.before.before.before.same3.ensures ∙ c.before.before.before.if3.false,
-      sym c.before.same4.ensures ∙ c.if4.false,
+      sym c.same.ensures ∙ c.if-same.false,
+      sym c.same-2.ensures ∙ c.if-same-2.false,
+      sym c.same-3.ensures ∙ c.if-same-3.false,
+      sym c.same-4.ensures ∙ c.if-same-4.false,
     )
 
-pub word-spec : {M : Type 1} → statement M
-word-spec =
+pub word_spec : {M : Type 1} → statement M
+word_spec =
     tie.close
     (tie.spec
-    slice-aggregate-same
     same-requires
     returns
-    slice-aggregate-same-2
     same-requires-2
     returns-2
-    slice-aggregate-same-3
     same-requires-3
     returns-3
-    slice-aggregate-same-4
     same-requires-4
     returns-4
     returns-5)
