@@ -7,35 +7,35 @@ use Rattle.buffers.proofs.Fills.{Filled, cleared_none, cleared_next, cleared_all
 use Rattle.buffers.proofs.clear.Statement.{statement}
 use Rattle.buffers.proofs.clear.Tie as tie
 
-abbrev invariant-loop : tie.invariant-loop
+abbrev invariant-loop : tie.invariant-loop-i
 invariant-loop out₀ i₀ out i = Filled out₀ out (replicate (length out₀) 0) i
 
-abbrev decreases-loop : tie.decreases-loop
+abbrev decreases-loop : tie.decreases-loop-i
 decreases-loop out₀ i₀ out i = length out₀ - i
 
-loop-holds : tie.Need-loop-init invariant-loop decreases-loop
+loop-holds : tie.Need-loop-i-init invariant-loop decreases-loop
 loop-holds c = cleared_none _
 
-mul-out : tie.Need-overflow-mul-out invariant-loop decreases-loop
+mul-out : tie.Need-offset_bounds-out-i invariant-loop decreases-loop
 mul-out c = search rules
 
-slice-write-out : tie.Need-slice-write-out invariant-loop decreases-loop
+slice-write-out : tie.Need-bounds-out-i invariant-loop decreases-loop
 slice-write-out c = search rules
 
-add-i : tie.Need-overflow-add-i invariant-loop decreases-loop
+add-i : tie.Need-overflow_add-i invariant-loop decreases-loop
 add-i c = search rules
 
-loop-less : tie.Need-loop-smaller invariant-loop decreases-loop
-loop-less c = let s = c.before.loop.invariant.same in omega (arith, s, c.loop-test.true)
+loop-less : tie.Need-loop-i-smaller invariant-loop decreases-loop
+loop-less c = let s = c.loop-i.invariant.same in omega (arith, s, c.loop-i-test.true)
 
-loop-again : tie.Need-loop-preserved invariant-loop decreases-loop
-loop-again c = cleared_next c.before.loop.invariant c.loop-test.true
+loop-again : tie.Need-loop-i-preserved invariant-loop decreases-loop
+loop-again c = cleared_next c.loop-i.invariant c.loop-i-test.true
 
-same_length : tie.Need-same-length invariant-loop decreases-loop
-same_length c = c.before.loop.invariant.same
+same_length : tie.Need-shape_of-out invariant-loop decreases-loop
+same_length c = c.loop-i.invariant.same
 
 returns : tie.Need-returns invariant-loop decreases-loop
-returns c = cleared_all c.before.loop.invariant c.loop-test.false
+returns c = cleared_all c.loop-i.invariant c.loop-i-test.false
 
 pub clear_spec : {M : Type 1} → statement M
 clear_spec =

@@ -3,7 +3,7 @@ use borrow.Author.Rules.{rules}
 use Rattle.lines.proofs.number_at.Statement.{statement}
 use Rattle.lines.proofs.number_at.Tie as tie
 
-sub-skip : tie.Need-overflow-sub-skip
+sub-skip : tie.Need-overflow_sub-skip
 sub-skip c = search rules
 
 field-requires : tie.Need-field-requires
@@ -13,7 +13,7 @@ number-requires : tie.Need-number-requires
 number-requires c κs = search rules
 
 returns : tie.Need-returns
-returns c = rw c.before.field.ensures at c.number.ensures
+returns c = rw c.field.ensures at c.number.ensures
 
-pub number-at-spec : {M : Type 1} → statement M
-number-at-spec = tie.close (tie.spec sub-skip field-requires number-requires returns)
+pub number_at_spec : {M : Type 1} → statement M
+number_at_spec = tie.close (tie.spec sub-skip field-requires number-requires returns)

@@ -1,64 +1,66 @@
 -- `lines::task` meets its contract: the ranges from the left.
 use mathlib.Core.Path.{◌≡◌, ◌∙◌}
-use mathlib.Core.Logic.{⊎_elim}
 use Rattle.lines.specs.Lines.{release_is}
 use borrow.Author.Rules.{rules}
 use Rattle.lines.proofs.task.Statement.{statement}
 use Rattle.lines.proofs.task.Tie as tie
+use Rattle.lines.proofs.task.Lts.{in-Once, in-Every}
 
-by-release : (c : tie.At-match-branch) → (let t = c.before.before.args.task in c.match.times ≡ release_is t.release t)
+by-release : (c : tie.Joined-release) → (let t = c.args.task in c.match-release.times ≡ release_is t.release t)
 by-release c =
-    ⊎_elim (λ w. w.5 ∙ w.4.ensures ∙ rw (w.3.ensures, c.before.in-ticks.ensures, w.1.given.1))
-    (λ w. w.7 ∙ w.6.ensures ∙ rw (w.5.ensures, w.4.ensures, w.3.ensures, c.before.in-ticks.ensures, w.1.given.1)) c.match.branch
+    elim c.match-release.branch [
+      | in-Once w ↦ w.times-is ∙ w.ranged-times.ensures ∙ rw (w.ranged.ensures, c.in_ticks-due.ensures, w.in-Once.is)
+      | in-Every w ↦ w.times-is ∙ w.ranged-times-in-Every.ensures ∙ rw (w.ranged-repeated.ensures, w.ranged-in-Every.ensures, w.in_ticks.ensures, c.in_ticks-due.ensures, w.in-Every.is)
+    ]
 
-in-ticks-requires : tie.Need-in-ticks-requires
+in-ticks-requires : tie.Need-in_ticks-due-requires
 in-ticks-requires c κs = search rules
 
-enum-known-release : tie.Need-enum-known-release
+enum-known-release : tie.Need-enum_known-release
 enum-known-release c = search rules
 
 ranged-requires : tie.Need-ranged-requires
 ranged-requires c κs = search rules
 
-ranged-requires-2 : tie.Need-ranged-requires-2
+ranged-requires-2 : tie.Need-ranged-times-requires
 ranged-requires-2 c κs = search rules
 
-enum-known-release-2 : tie.Need-enum-known-release-2
+enum-known-release-2 : tie.Need-enum_known-release-in-Every-1
 enum-known-release-2 c = search rules
 
-in-ticks-requires-2 : tie.Need-in-ticks-requires-2
+in-ticks-requires-2 : tie.Need-in_ticks-requires
 in-ticks-requires-2 c κs = search rules
 
-ranged-requires-3 : tie.Need-ranged-requires-3
+ranged-requires-3 : tie.Need-ranged-requires-in-Every
 ranged-requires-3 c κs = search rules
 
-ranged-requires-4 : tie.Need-ranged-requires-4
+ranged-requires-4 : tie.Need-ranged-repeated-requires
 ranged-requires-4 c κs = search rules
 
-ranged-requires-5 : tie.Need-ranged-requires-5
+ranged-requires-5 : tie.Need-ranged-times-requires-in-Every
 ranged-requires-5 c κs = search rules
 
-in-ticks-requires-3 : tie.Need-in-ticks-requires-3
+in-ticks-requires-3 : tie.Need-in_ticks-requires-2
 in-ticks-requires-3 c κs = search rules
 
-ranged-requires-6 : tie.Need-ranged-requires-6
+ranged-requires-6 : tie.Need-ranged-worked-requires
 ranged-requires-6 c κs = search rules
 
-cast-within : tie.Need-overflow-cast-within
+cast-within : tie.Need-overflow_cast-task
 cast-within c = search rules
 
 within-requires : tie.Need-within-requires
 within-requires c κs = search rules
 
-ranged-requires-7 : tie.Need-ranged-requires-7
+ranged-requires-7 : tie.Need-ranged-requires-2
 ranged-requires-7 c κs = search rules
 
 returns : tie.Need-returns
 returns c =
-    rw (c.before.within.ensures, c.before.before.before.ranged6.ensures, c.before.before.before.before.in-ticks3.ensures, by-release c.before.before.before.before.before) at c.ranged7.ensures
+    rw (c.within.ensures, c.ranged-worked.ensures, c.in_ticks-2.ensures, by-release c.before.before.before.before.before) at c.ranged-2.ensures
 
-pub task-spec : {M : Type 1} → statement M
-task-spec =
+pub task_spec : {M : Type 1} → statement M
+task_spec =
     tie.close
     (tie.spec
     in-ticks-requires

@@ -2,11 +2,11 @@
 use Rattle.lines.proofs.tested.Statement.{statement}
 use Rattle.lines.proofs.tested.Tie as tie
 
-returns : tie.Need-returns
-returns c = rw c.if1.true
+returns : tie.Need-returns-then-ok
+returns c = rw c.if-ok.true
 
-returns-2 : tie.Need-returns-2
-returns-2 c = rw c.if1.false
+returns-2 : tie.Need-returns
+returns-2 c = rw c.if-ok.false
 
-pub tested-spec : {M : Type 1} → statement M
-tested-spec = tie.close (tie.spec returns returns-2)
+pub tested_spec : {M : Type 1} → statement M
+tested_spec = tie.close (tie.spec returns returns-2)

@@ -3,17 +3,17 @@ use borrow.Author.Rules.{rules}
 use Rattle.lines.proofs.wrong_kind.Statement.{statement}
 use Rattle.lines.proofs.wrong_kind.Tie as tie
 
-enum-known-kind : tie.Need-enum-known-kind
+enum-known-kind : tie.Need-enum_known-kind
 enum-known-kind c = search rules
 
-enum_told : tie.Need-enum-told
+enum_told : tie.Need-enum_told-1
 enum_told c = search rules
 
-returns : tie.Need-returns
-returns c = rw c.before.kind.given.1
+returns : tie.Need-returns-in-Bad
+returns c = rw c.in-Bad.is
 
-returns-2 : tie.Need-returns-2
-returns-2 c = rw c.enum_told.given.1
+returns-2 : tie.Need-returns-in-Is
+returns-2 c = rw c.in-Is.is
 
-pub wrong-kind-spec : {M : Type 1} → statement M
-wrong-kind-spec = tie.close (tie.spec enum-known-kind enum_told returns returns-2)
+pub wrong_kind_spec : {M : Type 1} → statement M
+wrong_kind_spec = tie.close (tie.spec enum-known-kind enum_told returns returns-2)

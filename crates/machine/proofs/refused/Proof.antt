@@ -4,11 +4,11 @@ use borrow.Author.Rules.{rules}
 use Rattle.machine.proofs.refused.Statement.{statement}
 use Rattle.machine.proofs.refused.Tie as tie
 
-refused-requires : tie.Need-refused-requires
+refused-requires : tie.Need-refused-refusal-requires
 refused-requires c κs = search rules
 
 returns : tie.Need-returns
-returns c = rw c.refused.ensures
+returns c = rw c.refused-refusal.ensures
 
-pub refused-spec : {M : Type 1} → statement M
-refused-spec = tie.close (tie.spec refused-requires returns)
+pub refused_spec : {M : Type 1} → statement M
+refused_spec = tie.close (tie.spec refused-requires returns)

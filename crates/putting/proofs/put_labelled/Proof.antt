@@ -4,20 +4,18 @@ use borrow.Author.Rules.{rules}
 use Rattle.putting.proofs.put_labelled.Statement.{statement}
 use Rattle.putting.proofs.put_labelled.Tie as tie
 
-put-word-requires : tie.Need-put-word-requires
+put-word-requires : tie.Need-put_word-m-requires
 put-word-requires c κs = search rules
 
-put-field-requires : tie.Need-put-field-requires
+put-field-requires : tie.Need-put_field-requires
 put-field-requires c κs = search rules
 
-same_length : tie.Need-same-length
+same_length : tie.Need-shape_of-out
 same_length c = search rules
 
 returns : tie.Need-returns
 returns c =
-    let number = c.before.before in
-    let word = number.before.before.before.before in
-    (put_more word.put_word.ensures number.put-field.ensures.0, search rules)
+    (put_more c.put_word-m.ensures c.put_field.ensures.0, search rules)
 
-pub put-labelled-spec : {M : Type 1} → statement M
-put-labelled-spec = tie.close (tie.spec put-word-requires put-field-requires same_length returns)
+pub put_labelled_spec : {M : Type 1} → statement M
+put_labelled_spec = tie.close (tie.spec put-word-requires put-field-requires same_length returns)

@@ -15,54 +15,43 @@ read : (c : tie.Start) → to_z w32 (of_z w32 c.args.margin) ≡ c.args.margin
 read c = to_z-of_z c.ranges.margin
 
 -- the size is the margin's
-sized : (c : tie.After-magnitude) → c.magnitude.result ≡ nat_abs c.before.before.args.margin
-sized c = rw (read c.before.before) at c.magnitude.ensures
+sized : (c : tie.After-magnitude-ticks) → c.magnitude-ticks.result ≡ nat_abs c.args.margin
+sized c = rw (read c.before.before) at c.magnitude-ticks.ensures
 
-magnitude-requires : tie.Need-magnitude-requires
+magnitude-requires : tie.Need-magnitude-ticks-requires
 magnitude-requires c κs = search rules
 
-slice-aggregate-put-word : tie.Need-slice-aggregate-put-word
-slice-aggregate-put-word c = search rules
-
-put-word-requires : tie.Need-put-word-requires
+put-word-requires : tie.Need-put_word-m-requires
 put-word-requires c κs = search rules
 
-put-number-requires : tie.Need-put-number-requires
+put-number-requires : tie.Need-put_number-requires
 put-number-requires c κs = search rules
 
-same_length : tie.Need-same-length
+same_length : tie.Need-shape_of-out-then-margin-lt0
 same_length c = search rules
 
-returns : tie.Need-returns
-returns c =
-    let number = c.before.before in
-    let word = number.before.before.before.before in
-    let test = word.before.before.before in
-    let start = test.before.before.before in (
-      rw (signed_below _ (rw (read start) at test.if1.true), ← sized test.before)
-          (put_more word.put_word.ensures number.put-number.ensures.0),
-      search rules,
-    )
+returns : tie.Need-returns-then-margin-lt0
+returns c = (
+  rw (signed_below _ (rw (read c.before.before.before.before.before.before.before.before.before.before.before.before.before) at c.if-margin-lt0.true), ← sized c.before.before.before.before.before.before.before.before.before.before.before)
+      (put_more c.put_word-m.ensures c.put_number.ensures.0),
+  search rules,
+)
 
-put-field-requires : tie.Need-put-field-requires
+put-field-requires : tie.Need-put_field-requires
 put-field-requires c κs = search rules
 
-same-length-2 : tie.Need-same-length-2
+same-length-2 : tie.Need-shape_of-out
 same-length-2 c = search rules
 
-returns-2 : tie.Need-returns-2
+returns-2 : tie.Need-returns
 returns-2 c =
-    let size = c.before.before in
-    let test = size.before.before in
-    let start = test.before.before.before in
-    (rw (signed_above _ (rw (read start) at test.if1.false), ← sized test.before) size.put-field.ensures.0, search rules)
+    (rw (signed_above _ (rw (read c.before.before.before.before.before.before.before) at c.if-margin-lt0.false), ← sized c.before.before.before.before.before) c.put_field.ensures.0, search rules)
 
-pub put-margin-spec : {M : Type 1} → statement M
-put-margin-spec =
+pub put_margin_spec : {M : Type 1} → statement M
+put_margin_spec =
     tie.close
     (tie.spec
     magnitude-requires
-    slice-aggregate-put-word
     put-word-requires
     put-number-requires
     same_length

@@ -8,43 +8,40 @@ use borrow.Author.Rules.{rules}
 use Rattle.putting.proofs.put_word.Statement.{statement}
 use Rattle.putting.proofs.put_word.Tie as tie
 
-abbrev invariant-loop : tie.invariant-loop
+abbrev invariant-loop : tie.invariant-loop-i
 invariant-loop out₀ n word m₀ i₀ out m i = Put out₀ out n (take i word) m
 
-abbrev decreases-loop : tie.decreases-loop
+abbrev decreases-loop : tie.decreases-loop-i
 decreases-loop out₀ n word m₀ i₀ out m i = length word - i
 
-loop-holds : tie.Need-loop-init invariant-loop decreases-loop
+loop-holds : tie.Need-loop-i-init invariant-loop decreases-loop
 loop-holds c = put_none _ _
 
-shared-slice-read-put-byte : tie.Need-shared-slice-read-put-byte invariant-loop decreases-loop
+shared-slice-read-put-byte : tie.Need-bounds-word-i invariant-loop decreases-loop
 shared-slice-read-put-byte c = search rules
 
-put-byte-requires : tie.Need-put-byte-requires invariant-loop decreases-loop
+put-byte-requires : tie.Need-put_byte-m-requires invariant-loop decreases-loop
 put-byte-requires c κs =
-    let turn = c.before.before in
-    omega (arith, turn.before.before.before.before.requires, word_room _ _ turn.loop-test.true turn.before.loop.invariant)
+    omega (arith, c.requires, word_room _ _ c.loop-i-test.true c.loop-i.invariant)
 
-add-i : tie.Need-overflow-add-i invariant-loop decreases-loop
+add-i : tie.Need-overflow_add-i invariant-loop decreases-loop
 add-i c = search rules
 
-loop-less : tie.Need-loop-smaller invariant-loop decreases-loop
+loop-less : tie.Need-loop-i-smaller invariant-loop decreases-loop
 loop-less c = search rules
 
-loop-again : tie.Need-loop-preserved invariant-loop decreases-loop
+loop-again : tie.Need-loop-i-preserved invariant-loop decreases-loop
 loop-again c =
-    let byte = c.before.before in
-    let turn = byte.before.before.before in
-    word_next _ _ turn.loop-test.true turn.before.loop.invariant byte.put_byte.ensures
+    word_next _ _ c.loop-i-test.true c.loop-i.invariant c.put_byte-m.ensures
 
-same_length : tie.Need-same-length invariant-loop decreases-loop
-same_length c = c.before.loop.invariant.same
+same_length : tie.Need-shape_of-out invariant-loop decreases-loop
+same_length c = c.loop-i.invariant.same
 
 returns : tie.Need-returns invariant-loop decreases-loop
-returns c = word_all _ _ c.loop-test.false c.before.loop.invariant
+returns c = word_all _ _ c.loop-i-test.false c.loop-i.invariant
 
-pub put-word-spec : {M : Type 1} → statement M
-put-word-spec =
+pub put_word_spec : {M : Type 1} → statement M
+put_word_spec =
     tie.close
     (tie.spec
     invariant-loop

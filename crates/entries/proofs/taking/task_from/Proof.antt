@@ -6,21 +6,21 @@ use borrow.Author.Rules.{rules}
 use Rattle.entries.proofs.taking.task_from.Statement.{statement}
 use Rattle.entries.proofs.taking.task_from.Tie as tie
 
-returns : tie.Need-returns
-returns c = rw (eq-eqb c.before.args.kind 1 (omega (arith, c.if1.true))) refl
+returns : tie.Need-returns-then-kind-eq1
+returns c = rw (eq-eqb c.args.kind 1 (omega (arith, c.if-kind-eq1.true))) refl
 
-returns-2 : tie.Need-returns-2
+returns-2 : tie.Need-returns-then-kind-eq2
 returns-2 c =
-    let kind = c.before.before.args.kind in
-    rw (ne_eqb kind 1 c.before.if1.false, eq-eqb kind 2 (omega (arith, c.if2.true))) refl
+    let kind = c.args.kind in
+    rw (ne_eqb kind 1 c.if-kind-eq1.false, eq-eqb kind 2 (omega (arith, c.if-kind-eq2.true))) refl
 
-no-task-requires : tie.Need-no-task-requires
+no-task-requires : tie.Need-no_task-requires
 no-task-requires c κs = search rules
 
-returns-3 : tie.Need-returns-3
+returns-3 : tie.Need-returns
 returns-3 c =
-    let kind = c.before.before.before.args.kind in
-    rw (ne_eqb kind 1 c.before.before.if1.false, ne_eqb kind 2 c.before.if2.false) c.no-task.ensures
+    let kind = c.args.kind in
+    rw (ne_eqb kind 1 c.if-kind-eq1.false, ne_eqb kind 2 c.if-kind-eq2.false) c.no_task.ensures
 
-pub task-from-spec : {M : Type 1} → statement M
-task-from-spec = tie.close (tie.spec returns returns-2 no-task-requires returns-3)
+pub task_from_spec : {M : Type 1} → statement M
+task_from_spec = tie.close (tie.spec returns returns-2 no-task-requires returns-3)

@@ -14,14 +14,14 @@ use Rattle.machine.proofs.State.step.Statement.{statement}
 use Rattle.machine.proofs.State.step.Tie as tie
 
 -- the step is not refused
-so : (c : tie.Else1) → accepts c.before.before.args.table c.before.before.args.self ≡ true
-so c = sym c.before.accepted.ensures ∙ not-false c.before.accepted.result c.if1.false
+so : (c : tie.Else-not-accepted) → accepts c.args.table c.args.self ≡ true
+so c = sym c.accepted.ensures ∙ c.if-not-accepted.false
 
-ok : (c : tie.Else1) → Obeyed c.before.before.args.table
+ok : (c : tie.Else-not-accepted) → Obeyed c.args.table
 ok c =
-    let servers : length c.before.before.args.table.servers ≡ 16 = search (rules, length_mapped) in
-    let tasks : length c.before.before.args.table.tasks ≡ 64 = search (rules, length_mapped) in
-    obeyed_of c.before.before.args.table (accepted_rules _ _ (so c)) servers tasks
+    let servers : length c.args.table.servers ≡ 16 = search (rules, length_mapped) in
+    let tasks : length c.args.table.tasks ≡ 64 = search (rules, length_mapped) in
+    obeyed_of c.args.table (accepted_rules _ _ (so c)) servers tasks
 
 accepted-requires : tie.Need-accepted-requires
 accepted-requires c κs = search rules
@@ -29,74 +29,73 @@ accepted-requires c κs = search rules
 refused-requires : tie.Need-refused-requires
 refused-requires c κs = search rules
 
-returns : tie.Need-returns
+returns : tie.Need-returns-then-not-accepted
 unfolding step_of
-returns c = rw (sym c.before.before.accepted.ensures ∙ not-true c.before.before.accepted.result c.before.if1.true) c.refused.ensures
+returns c = rw (sym c.accepted.ensures ∙ c.if-not-accepted.true) c.refused.ensures
 
-refill-requires : tie.Need-refill-requires
+refill-requires : tie.Need-refill-filled-requires
 refill-requires c κs = ok c
 
-release-requires : tie.Need-release-requires
+release-requires : tie.Need-release-ready-requires
 release-requires c κs =
-    (ok c.before, rw c.refill.ensures (accepted_work _ _ (so c.before)))
+    (ok c.before, rw c.refill-filled.ensures (accepted_work _ _ (so c.before)))
 
-first-tasks-requires : tie.Need-first-tasks-requires
+first-tasks-requires : tie.Need-first_tasks-firsts-requires
 first-tasks-requires c κs = ok c.before.before
 
-first-server-requires : tie.Need-first-server-requires
-first-server-requires c κs = (ok c.before.before.before, c.first-tasks.ensures)
+first-server-requires : tie.Need-first_server-holder-requires
+first-server-requires c κs = (ok c.before.before.before, c.first_tasks-firsts.ensures)
 
-first-task-requires : tie.Need-first-task-requires
-first-task-requires c κs = holder_most _ (ok c.before.before.before.before) c.before.before.release.result _ c.first-server.ensures
+first-task-requires : tie.Need-first_task-runner-requires
+first-task-requires c κs = holder_most _ (ok c.before.before.before.before) c.release-ready.result _ c.first_server-holder.ensures
 
-spend-requires : tie.Need-spend-requires
+spend-requires : tie.Need-spend-spent-requires
 spend-requires c κs = (
-  holder_most _ (ok c.before.before.before.before.before) c.before.before.before.release.result _ c.before.first-server.ensures,
-  holder_has _ (ok c.before.before.before.before.before) c.before.before.before.release.result _ c.before.first-server.ensures,
+  holder_most _ (ok c.before.before.before.before.before) c.release-ready.result _ c.first_server-holder.ensures,
+  holder_has _ (ok c.before.before.before.before.before) c.release-ready.result _ c.first_server-holder.ensures,
 )
 
 -- the runner, as the definition has it
-runner-so : (c : tie.After-first-task) → c.first-task.result ≡ runner_of c.before.before.before.before.before.before.before.args.table c.before.before.before.release.result c.before.first-server.result
+runner-so : (c : tie.After-first_task-runner) → c.first_task-runner.result ≡ runner_of c.args.table c.release-ready.result c.first_server-holder.result
 runner-so c =
-    c.first-task.ensures
-    ∙ first_runs _ (ok c.before.before.before.before.before) c.before.before.before.release.result _ _ c.before.before.first-tasks.ensures
-    (holder_most _ (ok c.before.before.before.before.before) c.before.before.before.release.result _ c.before.first-server.ensures)
+    c.first_task-runner.ensures
+    ∙ first_runs _ (ok c.before.before.before.before.before) c.release-ready.result _ _ c.first_tasks-firsts.ensures
+    (holder_most _ (ok c.before.before.before.before.before) c.release-ready.result _ c.first_server-holder.ensures)
 
-run-requires : tie.Need-run-requires
+run-requires : tie.Need-run-next-requires
 run-requires c κs =
-    let r = c.before.before.before.before.release.result in
-    let h = c.before.before.first-server.result in (
+    let r = c.release-ready.result in
+    let h = c.first_server-holder.result in (
       runner_most _ (ok c.before.before.before.before.before.before) r h _ (runner-so c.before),
-      rw c.spend.ensures (runner_has _ (ok c.before.before.before.before.before.before) r h _ (runner-so c.before)),
+      rw c.spend-spent.ensures (runner_has _ (ok c.before.before.before.before.before.before) r h _ (runner-so c.before)),
     )
 
 -- the state behind refills and releases, and behind the tick
-ready-so : (c : tie.After-release) → c.release.result ≡ ready c.before.before.before.before.args.table c.before.before.before.before.args.self
+ready-so : (c : tie.After-release-ready) → c.release-ready.result ≡ ready c.args.table c.args.self
 unfolding ready
-ready-so c = c.release.ensures ∙ ap (releases c.before.before.before.before.args.table) c.before.refill.ensures
+ready-so c = c.release-ready.ensures ∙ ap (releases c.args.table) c.refill-filled.ensures
 
-ran-so : (c : tie.After-run) → c.run.result ≡ runs c.before.before.first-task.result (spends c.before.before.before.first-server.result c.before.before.before.before.before.release.result)
-ran-so c = c.run.ensures ∙ ap (runs c.before.before.first-task.result) c.before.spend.ensures
+ran-so : (c : tie.After-run-next) → c.run-next.result ≡ runs c.first_task-runner.result (spends c.first_server-holder.result c.release-ready.result)
+ran-so c = c.run-next.ensures ∙ ap (runs c.first_task-runner.result) c.spend-spent.ensures
 
-tick-so : (c : tie.After-run) → c.run.result.tick ≡ c.before.before.before.before.before.before.before.before.before.args.self.tick
+tick-so : (c : tie.After-run-next) → c.run-next.result.tick ≡ c.args.self.tick
 unfolding ready
 tick-so c = ap (λ (x : State). x.tick) (ran-so c) ∙ ap (λ (x : State). x.tick) (ready-so c.before.before.before.before.before)
 
-add-next : tie.Need-overflow-add-next
+add-next : tie.Need-overflow_add-next
 add-next c =
     let early = accepted_tick _ _ (so c.before.before.before.before.before.before.before.before) in
     search (rules, tick-so c.before, early, span_most _ (ok c.before.before.before.before.before.before.before.before))
 
-no-refusal-requires : tie.Need-no-refusal-requires
+no-refusal-requires : tie.Need-no_refusal-refusal-requires
 no-refusal-requires c κs = search rules
 
-returns-2 : tie.Need-returns-2
+returns-2 : tie.Need-returns
 returns-2 d =
     let c = d.before in
-    let r = c.before.before.before.before.before.before in
-    rw d.no-refusal.ensures
-    (step_goes c.before.before.before.before.before.before.before.before.before.before.args.table c.before.before.before.before.before.before.before.before.before.before.args.self c.before.run.result r.release.result c.before.before.before.before.first-server.result c.before.before.before.first-task.result
-    (so c.before.before.before.before.before.before.before.before) (ready-so r) c.before.before.before.before.first-server.ensures (runner-so c.before.before.before) (ran-so c.before))
+    rw d.no_refusal-refusal.ensures
+    (step_goes c.args.table c.args.self c.run-next.result c.release-ready.result c.first_server-holder.result c.first_task-runner.result
+    (so c.before.before.before.before.before.before.before.before) (ready-so c.before.before.before.before.before.before) c.first_server-holder.ensures (runner-so c.before.before.before) (ran-so c.before))
 
 pub step_spec : {M : Type 1} → statement M
 step_spec =

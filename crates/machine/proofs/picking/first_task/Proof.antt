@@ -5,23 +5,23 @@ use Rattle.machine.proofs.Beside.{entry_is}
 use Rattle.machine.proofs.picking.first_task.Statement.{statement}
 use Rattle.machine.proofs.picking.first_task.Tie as tie
 
-returns : tie.Need-returns
+returns : tie.Need-returns-then-holder-eq0
 returns c = search rules
 
-sub-i : tie.Need-overflow-sub-i
+sub-i : tie.Need-overflow_sub-i
 sub-i c = search rules
 
-cast-i : tie.Need-overflow-cast-i
+cast-i : tie.Need-overflow_cast-i
 cast-i c = search rules
 
-mul-result : tie.Need-overflow-mul-result
+mul-result : tie.Need-offset_bounds-firsts-i
 mul-result c = search rules
 
-array-read-result : tie.Need-array-read-result
+array-read-result : tie.Need-bounds-firsts-i
 array-read-result c = search rules
 
-returns-2 : tie.Need-returns-2
-returns-2 c = sym (entry_is c.before.args.t2 c.before.args.holder c.if1.false)
+returns-2 : tie.Need-returns
+returns-2 c = sym (entry_is c.args.firsts c.args.holder c.if-holder-eq0.false)
 
-pub first-task-spec : {M : Type 1} → statement M
-first-task-spec = tie.close (tie.spec returns sub-i cast-i mul-result array-read-result returns-2)
+pub first_task_spec : {M : Type 1} → statement M
+first_task_spec = tie.close (tie.spec returns sub-i cast-i mul-result array-read-result returns-2)

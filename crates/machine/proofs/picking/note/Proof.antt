@@ -4,11 +4,11 @@ use borrow.Author.Tests.{lt-ltb, le-ltb}
 use Rattle.machine.proofs.picking.note.Statement.{statement}
 use Rattle.machine.proofs.picking.note.Tie as tie
 
-returns : tie.Need-returns
-returns c = rw (lt-ltb 0 c.before.args.waiting (omega (arith, c.if1.true)))
+returns : tie.Need-returns-then-waiting-gt0
+returns c = rw (lt-ltb 0 c.args.waiting (omega (arith, c.if-waiting-gt0.true)))
 
-returns-2 : tie.Need-returns-2
-returns-2 c = rw (le-ltb 0 c.before.args.waiting (omega (arith, c.if1.false)))
+returns-2 : tie.Need-returns
+returns-2 c = rw (le-ltb 0 c.args.waiting (omega (arith, c.if-waiting-gt0.false)))
 
-pub note-spec : {M : Type 1} → statement M
-note-spec = tie.close (tie.spec returns returns-2)
+pub note_spec : {M : Type 1} → statement M
+note_spec = tie.close (tie.spec returns returns-2)

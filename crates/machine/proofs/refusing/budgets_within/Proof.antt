@@ -11,44 +11,44 @@ use Rattle.table.proofs.Places.{Walk, walk_starts, walk_goes_on, walk_some, walk
 use Rattle.machine.proofs.refusing.budgets_within.Statement.{statement}
 use Rattle.machine.proofs.refusing.budgets_within.Tie as tie
 
-abbrev invariant-loop : tie.invariant-loop
+abbrev invariant-loop : tie.invariant-loop-i
 invariant-loop state table n i₀ i = Walk (over_budget table state) n i
 
-abbrev decreases-loop : tie.decreases-loop
+abbrev decreases-loop : tie.decreases-loop-i
 decreases-loop state table n i₀ i = n - i
 
-loop-holds : tie.Need-loop-init invariant-loop decreases-loop
+loop-holds : tie.Need-loop-i-init invariant-loop decreases-loop
 loop-holds c = walk_starts _ _
 
-mul-server : tie.Need-overflow-mul-server invariant-loop decreases-loop
+mul-server : tie.Need-offset_bounds-table-i invariant-loop decreases-loop
 mul-server c = search rules
 
-element-copy-out-server : tie.Need-element-copy-out-server invariant-loop decreases-loop
-element-copy-out-server c = let h : length c.before.before.args.t2.servers ≡ 16 = search (rules, length_mapped) in omega (arith, c.before.before.requires)
+element-copy-out-server : tie.Need-bounds-table-i invariant-loop decreases-loop
+element-copy-out-server c = let h : length c.args.table.servers ≡ 16 = search (rules, length_mapped) in omega (arith, c.requires)
 
-mul-budget : tie.Need-overflow-mul-budget invariant-loop decreases-loop
+mul-budget : tie.Need-offset_bounds-state-i invariant-loop decreases-loop
 mul-budget c = search rules
 
-element-copy-out-budget : tie.Need-element-copy-out-budget invariant-loop decreases-loop
+element-copy-out-budget : tie.Need-bounds-state-i invariant-loop decreases-loop
 element-copy-out-budget c = search rules
 
-returns : tie.Need-returns invariant-loop decreases-loop
-returns c = sym (walk_some c.before.before.before.before.before.loop.invariant c.before.before.before.before.loop-test.true (lt-ltb _ _ c.if1.true))
+returns : tie.Need-returns-then-server-budget invariant-loop decreases-loop
+returns c = sym (walk_some c.loop-i.invariant c.loop-i-test.true (lt-ltb _ _ c.if-server-budget.true))
 
-add-i : tie.Need-overflow-add-i invariant-loop decreases-loop
+add-i : tie.Need-overflow_add-i invariant-loop decreases-loop
 add-i c = search rules
 
-loop-less : tie.Need-loop-smaller invariant-loop decreases-loop
+loop-less : tie.Need-loop-i-smaller invariant-loop decreases-loop
 loop-less c = search rules
 
-loop-again : tie.Need-loop-preserved invariant-loop decreases-loop
-loop-again c = walk_goes_on c.before.before.before.before.before.loop.invariant c.before.before.before.before.loop-test.true (le-ltb _ _ c.if1.false)
+loop-again : tie.Need-loop-i-preserved invariant-loop decreases-loop
+loop-again c = walk_goes_on c.loop-i.invariant c.loop-i-test.true (le-ltb _ _ c.if-server-budget.false)
 
-returns-2 : tie.Need-returns-2 invariant-loop decreases-loop
-returns-2 c = sym (walk_none c.before.loop.invariant c.loop-test.false)
+returns-2 : tie.Need-returns invariant-loop decreases-loop
+returns-2 c = sym (walk_none c.loop-i.invariant c.loop-i-test.false)
 
-pub budgets-within-spec : {M : Type 1} → statement M
-budgets-within-spec =
+pub budgets_within_spec : {M : Type 1} → statement M
+budgets_within_spec =
     tie.close
     (tie.spec
     invariant-loop

@@ -11,30 +11,30 @@ use Rattle.table.specs.declared.Release.TheVariants.{Every}
 use Rattle.machine.proofs.releasing.falls_on.Statement.{statement}
 use Rattle.machine.proofs.releasing.falls_on.Tie as tie
 
-enum-known-release : tie.Need-enum-known-release
+enum-known-release : tie.Need-enum_known-release
 enum-known-release c = search rules
 
-enum-known-release-2 : tie.Need-enum-known-release-2
+enum-known-release-2 : tie.Need-enum_known-release-in-Every-1
 enum-known-release-2 c = search rules
 
-returns : tie.Need-returns
-returns c = rw (c.before.before.release2.given.1, lt-leb _ _ c.if1.true)
+returns : tie.Need-returns-then-tick-offset
+returns c = rw (c.in-Every.is, lt-leb _ _ c.if-tick-offset.true)
 
 -- a period that obeys the rules is not 0
 period_some : (offset period : ℕ) → release_obeys (Every offset period) ≡ true → 0 < period
 period_some offset period h = leb-true 1 period (and_left (leb 1 period) (leb period 16000) (and_right (leb offset 16000) (in_ticks period) h))
 
-rem-result : tie.Need-nonzero-rem-result
-rem-result c = period_some c.before.before.release2.given.0.0 c.before.before.release2.given.0.1.0 (rw c.before.before.release2.given.1 at c.before.before.before.before.requires)
+rem-result : tie.Need-nonzero_rem-result
+rem-result c = period_some c.in-Every.offset c.in-Every.period (rw c.in-Every.is at c.requires)
 
-returns-2 : tie.Need-returns-2
-returns-2 c = rw c.before.release.given.1
+returns-2 : tie.Need-returns-in-Once
+returns-2 c = rw c.in-Once.is
 
-returns-3 : tie.Need-returns-3
-returns-3 c = rw (c.before.before.release2.given.1, le-leb _ _ c.if1.false)
+returns-3 : tie.Need-returns-else-tick-offset
+returns-3 c = rw (c.in-Every.is, le-leb _ _ c.if-tick-offset.false)
 
-pub falls-on-spec : {M : Type 1} → statement M
-falls-on-spec =
+pub falls_on_spec : {M : Type 1} → statement M
+falls_on_spec =
     tie.close
     (tie.spec
     enum-known-release

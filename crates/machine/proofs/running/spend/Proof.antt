@@ -6,32 +6,32 @@ use Rattle.machine.proofs.Beside.{less_none, less_is}
 use Rattle.machine.proofs.running.spend.Statement.{statement}
 use Rattle.machine.proofs.running.spend.Tie as tie
 
-returns : tie.Need-returns
-returns c = rw (less_none _ _ c.if1.true)
+returns : tie.Need-returns-then-holder-eq0
+returns c = rw (less_none _ _ c.if-holder-eq0.true)
 
-sub-i : tie.Need-overflow-sub-i
+sub-i : tie.Need-overflow_sub-i
 sub-i c = search rules
 
-cast-i : tie.Need-overflow-cast-i
+cast-i : tie.Need-overflow_cast-i
 cast-i c = search rules
 
-mul-budget : tie.Need-overflow-mul-budget
+mul-budget : tie.Need-offset_bounds-spent-i
 mul-budget c = search rules
 
-element-copy-out-budget : tie.Need-element-copy-out-budget
+element-copy-out-budget : tie.Need-bounds-spent-i
 element-copy-out-budget c = search rules
 
-sub-spent : tie.Need-overflow-sub-spent
-sub-spent c = c.before.before.requires.1 (c.before.before.args.holder - 1) (omega (arith, c.before.if1.false))
+sub-spent : tie.Need-overflow_sub-spent
+sub-spent c = c.requires.1 (c.args.holder - 1) (omega (arith, c.if-holder-eq0.false))
 
-mul-spent : tie.Need-overflow-mul-spent
+mul-spent : tie.Need-offset_bounds-spent-i-2
 mul-spent c = search rules
 
-element-write-spent : tie.Need-element-write-spent
+element-write-spent : tie.Need-bounds-spent-i-2
 element-write-spent c = search rules
 
-returns-2 : tie.Need-returns-2
-returns-2 c = rw (less_is _ _ c.before.if1.false)
+returns-2 : tie.Need-returns
+returns-2 c = rw (less_is _ _ c.if-holder-eq0.false)
 
 pub spend_spec : {M : Type 1} → statement M
 spend_spec =
