@@ -1,7 +1,6 @@
 // What the report says of each task and each server: the answers' types, their definitions (specs/) and laws (proofs/).
 #![tactic(auto)]
 
-
 use refusals::Refusal;
 
 // The worst response, the release of the first job that attains it, and the margin.

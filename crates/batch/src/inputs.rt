@@ -4,7 +4,7 @@ ghost use Rattle.std.specs.Prelude.{◌≤◌, ◌<◌, length};
 ghost use Rattle.batch.specs.Inputs.{WholeLines, Moved, Filled, Ended, Cut, NextPart};
 ghost use Rattle.io.specs.Counts.{IsPrefixLen};
 
-use crate::INPUT;
+use crate::{INPUT, STANDARD_INPUT};
 
 // How many bytes are held, how many of them, from the first, are whole lines, and whether no more come.
 #[derive(Clone, Copy)]
@@ -60,7 +60,7 @@ fn fill(room: &mut [u8], kept: usize) -> usize
     requires { kept ≤ length room.old }
     ensures { Filled room.old room.new kept result }
 {
-    kept + io::read_full(libc::STDIN_FILENO, &mut room[kept..])
+    kept + io::read_full(STANDARD_INPUT, &mut room[kept..])
 }
 
 // Ends the last line with a line feed where it has none, and answers how many bytes are then held.

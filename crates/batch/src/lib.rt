@@ -9,6 +9,11 @@ pub mod numbers;
 
 ghost use Rattle.std.specs.Prelude.{◌≤◌, ◌<◌, length};
 
+// The numbers under which a program reads its standard input and writes its standard output.
+pub const STANDARD_INPUT: i32 = 0;
+
+pub const STANDARD_OUTPUT: i32 = 1;
+
 // How many bytes of standard input are held at once: of a line of more, its line feed counted, nothing can be read.
 pub const INPUT: usize = 1_048_576;
 
@@ -16,10 +21,10 @@ pub const INPUT: usize = 1_048_576;
 pub fn flush(out: &[u8; 65536], n: usize) {
     let bytes: &[u8] = out;
     if n < 65536 {
-        io::write_all(libc::STDOUT_FILENO, &bytes[..n]);
+        io::write_all(STANDARD_OUTPUT, &bytes[..n]);
         return;
     }
-    io::write_all(libc::STDOUT_FILENO, bytes);
+    io::write_all(STANDARD_OUTPUT, bytes);
 }
 
 // Puts one byte.

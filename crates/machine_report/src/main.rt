@@ -1,7 +1,7 @@
 // Reads a table's text from standard input and writes its report, from the tick machine alone.
 #![tactic(auto)]
 
-use batch::flush;
+use batch::{STANDARD_INPUT, flush};
 use watching::put_answer;
 
 // More bytes than a table's text may have: of a longer input, no more has to be read.
@@ -17,6 +17,6 @@ fn answer(text: &[u8]) {
 // Reads standard input and writes its report.
 fn main() {
     let mut room = [0u8; INPUT];
-    let n = io::read_full(libc::STDIN_FILENO, &mut room);
+    let n = io::read_full(STANDARD_INPUT, &mut room);
     answer(&room[..n]);
 }

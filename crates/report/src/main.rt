@@ -7,6 +7,10 @@ ghost use Rattle.refusals.specs.declared.Written.TheVariants.{Count, Refused};
 
 use refusals::Written;
 
+// The numbers under which a program reads its standard input and writes its standard output.
+const STANDARD_INPUT: i32 = 0;
+const STANDARD_OUTPUT: i32 = 1;
+
 // More bytes than a table's text may have: of a longer input, no more has to be read.
 const INPUT: usize = 5000;
 
@@ -29,12 +33,12 @@ fn answer(text: &[u8]) {
     let mut out = [0u8; OUTPUT];
     let reported = reporting::report(text, &mut out);
     let n = count_of(reported);
-    io::write_all(libc::STDOUT_FILENO, &out[..n]);
+    io::write_all(STANDARD_OUTPUT, &out[..n]);
 }
 
 // Reads standard input and writes its report.
 fn main() {
     let mut room = [0u8; INPUT];
-    let n = io::read_full(libc::STDIN_FILENO, &mut room);
+    let n = io::read_full(STANDARD_INPUT, &mut room);
     answer(&room[..n]);
 }

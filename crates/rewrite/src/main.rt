@@ -3,6 +3,10 @@
 
 use rewriting::rewrite;
 
+// The numbers under which a program reads its standard input and writes its standard output.
+const STANDARD_INPUT: i32 = 0;
+const STANDARD_OUTPUT: i32 = 1;
+
 // More bytes than a table's text may have: of a longer input, no more has to be read.
 const INPUT: usize = 5000;
 
@@ -13,12 +17,12 @@ const OUTPUT: usize = 2603;
 fn answer(text: &[u8]) {
     let mut out = [0u8; OUTPUT];
     let n = rewrite(text, &mut out);
-    io::write_all(libc::STDOUT_FILENO, &out[..n]);
+    io::write_all(STANDARD_OUTPUT, &out[..n]);
 }
 
 // Reads standard input and writes its table.
 fn main() {
     let mut room = [0u8; INPUT];
-    let n = io::read_full(libc::STDIN_FILENO, &mut room);
+    let n = io::read_full(STANDARD_INPUT, &mut room);
     answer(&room[..n]);
 }

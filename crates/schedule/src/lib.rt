@@ -1,3 +1,2 @@
 // Who runs when, from curves: definitions and laws, no code.
 #![tactic(auto)]
-

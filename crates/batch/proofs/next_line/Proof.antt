@@ -7,38 +7,38 @@ use borrow.Author.Rules.{rules}
 use Rattle.batch.proofs.next_line.Statement.{statement}
 use Rattle.batch.proofs.next_line.Tie as tie
 
-abbrev invariant-loop : tie.invariant-loop
+abbrev invariant-loop : tie.invariant-loop-i
 invariant-loop text at i₀ i = at < length text → (at ≤ i) × (i ≤ length text)
 
-abbrev decreases-loop : tie.decreases-loop
+abbrev decreases-loop : tie.decreases-loop-i
 decreases-loop text at i₀ i = length text - i
 
-loop-holds : tie.Need-loop-init invariant-loop decreases-loop
+loop-holds : tie.Need-loop-i-init invariant-loop decreases-loop
 loop-holds c = λ h. (omega arith, omega arith)
 
-shared-slice-read-if1 : tie.Need-shared-slice-read-if1 invariant-loop decreases-loop
+shared-slice-read-if1 : tie.Need-bounds-text-i invariant-loop decreases-loop
 shared-slice-read-if1 c = search rules
 
-add-result : tie.Need-overflow-add-result invariant-loop decreases-loop
+add-result : tie.Need-overflow_add-result invariant-loop decreases-loop
 add-result c = search rules
 
-returns : tie.Need-returns invariant-loop decreases-loop
-returns c = λ h. let b = c.before.before.before.loop.invariant h in (omega (arith, b.0), omega (arith, b.1))
+returns : tie.Need-returns-then-text-i-eq10 invariant-loop decreases-loop
+returns c = λ h. let b = c.loop-i.invariant h in (omega (arith, b.0), omega (arith, b.1))
 
-add-i : tie.Need-overflow-add-i invariant-loop decreases-loop
+add-i : tie.Need-overflow_add-i invariant-loop decreases-loop
 add-i c = search rules
 
-loop-less : tie.Need-loop-smaller invariant-loop decreases-loop
+loop-less : tie.Need-loop-i-smaller invariant-loop decreases-loop
 loop-less c = search rules
 
-loop-again : tie.Need-loop-preserved invariant-loop decreases-loop
-loop-again c = λ h. let b = c.before.before.before.loop.invariant h in (omega (arith, b.0), omega (arith, b.1))
+loop-again : tie.Need-loop-i-preserved invariant-loop decreases-loop
+loop-again c = λ h. let b = c.loop-i.invariant h in (omega (arith, b.0), omega (arith, b.1))
 
-returns-2 : tie.Need-returns-2 invariant-loop decreases-loop
-returns-2 c = λ h. let b = c.before.loop.invariant h in (omega (arith, b.0), omega (arith, b.1))
+returns-2 : tie.Need-returns invariant-loop decreases-loop
+returns-2 c = λ h. let b = c.loop-i.invariant h in (omega (arith, b.0), omega (arith, b.1))
 
-pub next-line-spec : {M : Type 1} → statement M
-next-line-spec =
+pub next_line_spec : {M : Type 1} → statement M
+next_line_spec =
     tie.close
     (tie.spec
     invariant-loop

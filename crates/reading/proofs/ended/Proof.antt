@@ -9,49 +9,47 @@ use Rattle.reading.proofs.ended.Statement.{statement}
 use Rattle.reading.proofs.ended.Tie as tie
 
 -- neither servers nor tasks are missing
-some : (c : tie.Else2) → (let t = c.before.before.before.before.args.table in (ltb 0 t.servers_n && ltb 0 t.tasks_n) ≡ true)
-some c = rw (lt-ltb 0 c.before.before.before.before.args.table.servers_n c.before.before.if1.false) (lt-ltb 0 _ c.if2.false)
+some : (c : tie.Else-table-lt1-2) → (let t = c.args.table in (ltb 0 t.servers_n && ltb 0 t.tasks_n) ≡ true)
+some c = rw (lt-ltb 0 c.args.table.servers_n c.if-table-lt1.false) (lt-ltb 0 _ c.if-table-lt1-2.false)
 
 refused-requires : tie.Need-refused-requires
 refused-requires c κs = search rules
 
-returns : tie.Need-returns
-returns c = rw (le-ltb 0 c.before.before.before.args.table.servers_n (omega (arith, c.before.if1.true))) c.refused.ensures
+returns : tie.Need-returns-then-table-lt1
+returns c = rw (le-ltb 0 c.args.table.servers_n (omega (arith, c.if-table-lt1.true))) c.refused.ensures
 
-refused-requires-2 : tie.Need-refused-requires-2
+refused-requires-2 : tie.Need-refused-requires-then-table-lt1-2
 refused-requires-2 c κs = search rules
 
-returns-2 : tie.Need-returns-2
+returns-2 : tie.Need-returns-then-table-lt1-2
 returns-2 c =
-    rw (le-ltb 0 c.before.before.before.before.before.args.table.tasks_n (omega (arith, c.before.if2.true)), and-false) c.refused2.ensures
+    rw (le-ltb 0 c.args.table.tasks_n (omega (arith, c.if-table-lt1-2.true)), and-false) c.refused-then-table-lt1-2.ensures
 
-returns-3 : tie.Need-returns-3
-returns-3 c = rw (some c.before.before, ne_eqb _ _ c.if3.true)
+returns-3 : tie.Need-returns-then-table-ne0
+returns-3 c = rw (some c.before.before, ne_eqb _ _ c.if-table-ne0.true)
 
-common-span-requires : tie.Need-common-span-requires
+common-span-requires : tie.Need-common_span-requires
 common-span-requires c κs = search rules
 
-enum-known-span : tie.Need-enum-known-span
+enum-known-span : tie.Need-enum_known-span
 enum-known-span c = search rules
 
-enum_told : tie.Need-enum-told
+enum_told : tie.Need-enum_told-1
 enum_told c = search rules
 
-refused-requires-3 : tie.Need-refused-requires-3
+refused-requires-3 : tie.Need-refused-requires-in_default
 refused-requires-3 c κs = search rules
 
-returns-4 : tie.Need-returns-4
+returns-4 : tie.Need-returns-in_default
 returns-4 c =
-    let e = c.before.before.before.before in
-    rw (some e.before.before, eq-eqb _ _ e.if3.false, sym c.before.before.before.common-span.ensures ∙ c.before.enum_told.given.1) c.refused3.ensures
+    rw (some c.before.before.before.before.before, eq-eqb _ _ c.if-table-ne0.false, sym c.common_span.ensures ∙ c.in_default.is) c.refused-in_default.ensures
 
-returns-5 : tie.Need-returns-5
+returns-5 : tie.Need-returns
 returns-5 c =
-    let e = c.before.before.before.before in
-    rw (some e.before.before, eq-eqb _ _ e.if3.false, sym c.before.before.before.common-span.ensures ∙ c.before.span.given.1)
+    rw (some c.before.before.before.before, eq-eqb _ _ c.if-table-ne0.false, sym c.common_span.ensures ∙ c.in-Ticks.is)
 
-pub ended-spec : {M : Type 1} → statement M
-ended-spec =
+pub ended_spec : {M : Type 1} → statement M
+ended_spec =
     tie.close
     (tie.spec
     refused-requires

@@ -6,34 +6,34 @@ use Rattle.batch.proofs.Parts.{byte_put}
 use Rattle.batch.proofs.inputs.end_last.Statement.{statement}
 use Rattle.batch.proofs.inputs.end_last.Tie as tie
 
-returns : tie.Need-returns
+returns : tie.Need-returns-then-held-eq0
 returns c = search rules
 
-sub-if2 : tie.Need-overflow-sub-if2
+sub-if2 : tie.Need-overflow_sub-held
 sub-if2 c = search rules
 
-slice-read-if2 : tie.Need-slice-read-if2
+slice-read-if2 : tie.Need-bounds-room-held
 slice-read-if2 c = search rules
 
-returns-2 : tie.Need-returns-2
+returns-2 : tie.Need-returns-then-room-held-eq10
 returns-2 c = search rules
 
-slice-write-room : tie.Need-slice-write-room
+slice-write-room : tie.Need-bounds-room-held-2
 slice-write-room c = search rules
 
-add-result : tie.Need-overflow-add-result
+add-result : tie.Need-overflow_add-result
 add-result c = search rules
 
-same_length : tie.Need-same-length
+same_length : tie.Need-shape_of-room
 same_length c = search rules
 
-returns-3 : tie.Need-returns-3
+returns-3 : tie.Need-returns
 returns-3 c =
-    let args = c.before.before.before.args in
-    record { more = search rules; room = search rules; front = take-set-le args.held args.room.now args.held 10 (omega arith); ends = λ h. byte_put args.room.now args.held 10 c.before.before.before.requires }
+    let args = c.args in
+    record { more = search rules; room = search rules; front = take-set-le args.held args.room.now args.held 10 (omega arith); ends = λ h. byte_put args.room.now args.held 10 c.requires }
 
-pub end-last-spec : {M : Type 1} → statement M
-end-last-spec =
+pub end_last_spec : {M : Type 1} → statement M
+end_last_spec =
     tie.close
     (tie.spec
     returns

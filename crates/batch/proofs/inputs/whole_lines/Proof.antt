@@ -9,41 +9,40 @@ use Rattle.batch.proofs.Parts.{NoneBehind, none_behind_less}
 use Rattle.batch.proofs.inputs.whole_lines.Statement.{statement}
 use Rattle.batch.proofs.inputs.whole_lines.Tie as tie
 
-abbrev invariant-loop : tie.invariant-loop
+abbrev invariant-loop : tie.invariant-loop-n
 invariant-loop text n₀ n = (n ≤ length text) × NoneBehind text n
 
-abbrev decreases-loop : tie.decreases-loop
+abbrev decreases-loop : tie.decreases-loop-n
 decreases-loop text n₀ n = n
 
-loop-holds : tie.Need-loop-init invariant-loop decreases-loop
+loop-holds : tie.Need-loop-n-init invariant-loop decreases-loop
 loop-holds c = (omega arith, λ j h k. omega arith)
 
-sub-if1 : tie.Need-overflow-sub-if1 invariant-loop decreases-loop
+sub-if1 : tie.Need-overflow_sub-n invariant-loop decreases-loop
 sub-if1 c = search rules
 
-shared-slice-read-if1 : tie.Need-shared-slice-read-if1 invariant-loop decreases-loop
+shared-slice-read-if1 : tie.Need-bounds-text-n invariant-loop decreases-loop
 shared-slice-read-if1 c = search rules
 
-returns : tie.Need-returns invariant-loop decreases-loop
+returns : tie.Need-returns-then-text-n-eq10 invariant-loop decreases-loop
 returns c =
-    ((omega arith, sym (length-take-le _ _ (omega arith))), record { ends = λ h. c.if1.true; behind = c.before.before.before.loop.invariant.1 })
+    ((omega arith, sym (length-take-le _ _ (omega arith))), record { ends = λ h. c.if-text-n-eq10.true; behind = c.loop-n.invariant.1 })
 
-sub-n : tie.Need-overflow-sub-n invariant-loop decreases-loop
+sub-n : tie.Need-overflow_sub-n-in-loop-n invariant-loop decreases-loop
 sub-n c = search rules
 
-loop-less : tie.Need-loop-smaller invariant-loop decreases-loop
+loop-less : tie.Need-loop-n-smaller invariant-loop decreases-loop
 loop-less c = search rules
 
-loop-again : tie.Need-loop-preserved invariant-loop decreases-loop
+loop-again : tie.Need-loop-n-preserved invariant-loop decreases-loop
 loop-again c =
-    let p = c.before.before.before in
-    (omega arith, none_behind_less c.before.before.before.before.args.text.now p.loop.n p.loop.invariant.1 c.if1.false)
+    (omega arith, none_behind_less c.args.text.now c.loop-n.n c.loop-n.invariant.1 c.if-text-n-eq10.false)
 
-returns-2 : tie.Need-returns-2 invariant-loop decreases-loop
-returns-2 c = ((omega arith, refl), record { ends = λ h. omega arith; behind = λ j h k. c.before.loop.invariant.1 j (omega arith) k })
+returns-2 : tie.Need-returns invariant-loop decreases-loop
+returns-2 c = ((omega arith, refl), record { ends = λ h. omega arith; behind = λ j h k. c.loop-n.invariant.1 j (omega arith) k })
 
-pub whole-lines-spec : {M : Type 1} → statement M
-whole-lines-spec =
+pub whole_lines_spec : {M : Type 1} → statement M
+whole_lines_spec =
     tie.close
     (tie.spec
     invariant-loop
