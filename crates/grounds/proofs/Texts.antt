@@ -34,6 +34,7 @@ use Rattle.grounds.proofs.Grounds.{refused_ground, ground_refuses, said_none, no
 reached_reads : (ls : List (List ℕ)) (t : Table) (n : ℕ) {u : Table} {m : List ℕ} {x : Ground} {k place : ℕ} → Reached ls t n k u m → GroundBehind u k m x place
     → read_lines ls t n ≡ refusal x k place
 unfolding read_lines
+reached_reads [] t n {u = u} {m = m} {x = x} {k = k} {place = place} r g = elim r [ ]
 reached_reads (l ∷ ls) t n {x = x} {place = place} here g = rw (ground_refuses n t.servers_n t.tasks_n l x place g)
 reached_reads (l ∷ ls) t n (later h f) g =
     after_right (said t n l) t n (λ u. read_lines ls u (n + 1)) (none_said n t.servers_n t.tasks_n l h)
@@ -145,6 +146,7 @@ none_accepted text h = go (text_judged text)
 -- of lines behind a table one is the first with a ground, and it has that ground only
 reached_once : (ls : List (List ℕ)) (t : Table) (n : ℕ) {u v : Table} {a b : List ℕ} {x y : Ground} {k l p q : ℕ} → Reached ls t n k u a → GroundBehind u k a x p
     → Reached ls t n l v b → GroundBehind v l b y q → x ≡ y
+reached_once [] t n {u = u} {v = v} {a = a} {b = b} {x = x} {y = y} {k = k} {l = l} {p = p} {q = q} r g _ h = elim r [ ]
 reached_once (l ∷ ls) t n here g here h = (ground_once n t.servers_n t.tasks_n l _ _ _ _ g h).0
 reached_once (l ∷ ls) t n {x = x} {p = p} here g (later r f) h = absurd (r x p g)
 reached_once (l ∷ ls) t n {y = y} {q = q} (later r f) g here h = absurd (r y q h)
@@ -155,6 +157,7 @@ first_once ls t n f g = reached_once ls t n f.reached f.ground g.reached g.groun
 
 reached_not_right : (ls : List (List ℕ)) (t : Table) (n : ℕ) {u v : Table} {a : List ℕ} {x : Ground} {k p m : ℕ} → Reached ls t n k u a → GroundBehind u k a x p
     → AllRight ls t n v m → ⊥
+reached_not_right [] t n {u = u} {v = v} {a = a} {x = x} {k = k} {p = p} {m = m} r g _ = elim r [ ]
 reached_not_right (l ∷ ls) t n {x = x} {p = p} here g (next r a) = r x p g
 reached_not_right (l ∷ ls) t n (later s f) g (next r a) = reached_not_right ls (with_line t (said t n l)) (n + 1) f g a
 

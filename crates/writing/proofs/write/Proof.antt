@@ -12,60 +12,51 @@ use borrow.Author.Rules.{rules}
 use Rattle.writing.proofs.write.Statement.{statement}
 use Rattle.writing.proofs.write.Tie as tie
 
-obeys-rules-requires : tie.Need-obeys-rules-requires
+obeys-rules-requires : tie.Need-obeys_rules-requires
 obeys-rules-requires c κs = search rules
 
 refused-requires : tie.Need-refused-requires
 refused-requires c κs = search rules
 
 -- 13
-returns : tie.Need-returns
+returns : tie.Need-returns-then-not-obeys_rules
 returns c =
-    let rules = c.before.before in
-    let a = rules.before.before.args in
-    let t = rules.obeys-rules in
-    rw c.refused.ensures (writes_broken a.table a.out.now (sym t.ensures ∙ not-true t.result c.before.if1.true))
+    let a = c.args in
+    let t = c.obeys_rules in
+    rw c.refused.ensures (writes_broken a.table a.out.now (sym t.ensures ∙ c.if-not-obeys_rules.true))
 
 -- else the table obeys
-obeyed : (c : tie.Else1) → obeys c.before.before.before.args.table ≡ true
-obeyed c = let t = c.before.obeys-rules in sym t.ensures ∙ not-false t.result c.if1.false
+obeyed : (c : tie.Else-not-obeys_rules) → obeys c.args.table ≡ true
+obeyed c = let t = c.obeys_rules in sym t.ensures ∙ c.if-not-obeys_rules.false
 
-text-length-requires : tie.Need-text-length-requires
-text-length-requires c κs = let table = c.before.before.before.args.table in (servers_few table (obeyed c), tasks_few table (obeyed c))
+text-length-requires : tie.Need-text_length-n-requires
+text-length-requires c κs = let table = c.args.table in (servers_few table (obeyed c), tasks_few table (obeyed c))
 
-refused-requires-2 : tie.Need-refused-requires-2
+refused-requires-2 : tie.Need-refused-requires-then-out-n
 refused-requires-2 c κs = search rules
 
 -- 11
-returns-2 : tie.Need-returns-2
+returns-2 : tie.Need-returns-then-out-n
 returns-2 c =
-    let length = c.before.before in
-    let rules = length.before in
-    let a = rules.before.before.before.args in
-    rw c.refused2.ensures
-    (writes_obeyed a.table a.out.now (obeyed rules) (room_refused (text_of a.table) a.out.now (omega (arith, c.before.if2.true, length.text_length.ensures))))
+    let a = c.args in
+    rw c.refused-then-out-n.ensures
+    (writes_obeyed a.table a.out.now (obeyed c.before.before.before) (room_refused (text_of a.table) a.out.now (omega (arith, c.if-out-n.true, c.text_length-n.ensures))))
 
-put-text-requires : tie.Need-put-text-requires
+put-text-requires : tie.Need-put_text-requires
 put-text-requires c κs =
-    let length = c.before.before in
-    let rules = length.before in
-    let table = rules.before.before.before.args.table in
-    (servers_few table (obeyed rules), tasks_few table (obeyed rules), omega (arith, c.before.if2.false, length.text_length.ensures))
+    let table = c.args.table in
+    (servers_few table (obeyed c.before.before.before), tasks_few table (obeyed c.before.before.before), omega (arith, c.if-out-n.false, c.text_length-n.ensures))
 
-same_length : tie.Need-same-length
+same_length : tie.Need-shape_of-out
 same_length c = search rules
 
 -- the text
-returns-3 : tie.Need-returns-3
+returns-3 : tie.Need-returns
 returns-3 c =
-    let put = c.before.before in
-    let test = put.before.before in
-    let length = test.before in
-    let rules = length.before in
-    let a = rules.before.before.before.args in
-    rw length.text_length.ensures
-    (writes_obeyed a.table a.out.now (obeyed rules)
-    (room_written (text_of a.table) a.out.now (omega (arith, test.if2.false, length.text_length.ensures)) put.put-text.ensures))
+    let a = c.args in
+    rw c.text_length-n.ensures
+    (writes_obeyed a.table a.out.now (obeyed c.before.before.before.before.before.before)
+    (room_written (text_of a.table) a.out.now (omega (arith, c.if-out-n.false, c.text_length-n.ensures)) c.put_text.ensures))
 
 pub write_spec : {M : Type 1} → statement M
 write_spec =

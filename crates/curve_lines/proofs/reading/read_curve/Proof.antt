@@ -8,41 +8,41 @@ use borrow.Author.Rules.{rules}
 use Rattle.curve_lines.proofs.reading.read_curve.Statement.{statement}
 use Rattle.curve_lines.proofs.reading.read_curve.Tie as tie
 
-abbrev invariant-loop : tie.invariant-loop
+abbrev invariant-loop : tie.invariant-loop-i
 invariant-loop text at count behind₀ numbers₀ i₀ behind numbers i = length numbers ≡ 4096
 
-abbrev decreases-loop : tie.decreases-loop
+abbrev decreases-loop : tie.decreases-loop-i
 decreases-loop text at count behind₀ numbers₀ i₀ behind numbers i = count - i
 
-read-size-requires : tie.Need-read-size-requires invariant-loop decreases-loop
+read-size-requires : tie.Need-read_size-size-requires invariant-loop decreases-loop
 read-size-requires c κs = search rules
 
-loop-holds : tie.Need-loop-init invariant-loop decreases-loop
+loop-holds : tie.Need-loop-i-init invariant-loop decreases-loop
 loop-holds c = search rules
 
-next-number-requires : tie.Need-next-number-requires invariant-loop decreases-loop
+next-number-requires : tie.Need-next_number-number-requires invariant-loop decreases-loop
 next-number-requires c κs = search rules
 
-mul-numbers : tie.Need-overflow-mul-numbers invariant-loop decreases-loop
+mul-numbers : tie.Need-offset_bounds-numbers-i invariant-loop decreases-loop
 mul-numbers c = search rules
 
-array-write-numbers : tie.Need-array-write-numbers invariant-loop decreases-loop
+array-write-numbers : tie.Need-bounds-numbers-i invariant-loop decreases-loop
 array-write-numbers c = search rules
 
-add-i : tie.Need-overflow-add-i invariant-loop decreases-loop
+add-i : tie.Need-overflow_add-i invariant-loop decreases-loop
 add-i c = search rules
 
-loop-less : tie.Need-loop-smaller invariant-loop decreases-loop
+loop-less : tie.Need-loop-i-smaller invariant-loop decreases-loop
 loop-less c = search rules
 
-loop-again : tie.Need-loop-preserved invariant-loop decreases-loop
+loop-again : tie.Need-loop-i-preserved invariant-loop decreases-loop
 loop-again c = search rules
 
 returns : tie.Need-returns invariant-loop decreases-loop
 returns c = (omega arith, sym (length-take-le _ _ (omega arith)))
 
-pub read-curve-spec : {M : Type 1} → statement M
-read-curve-spec =
+pub read_curve_spec : {M : Type 1} → statement M
+read_curve_spec =
     tie.close
     (tie.spec
     invariant-loop

@@ -16,10 +16,10 @@ use Rattle.demands.proofs.Openings.{Walk, walk_first, walk_close, walk_next, dem
 use Rattle.demands.proofs.releasing.demand.Statement.{statement}
 use Rattle.demands.proofs.releasing.demand.Tie as tie
 
-abbrev invariant-loop : tie.invariant-loop
+abbrev invariant-loop : tie.invariant-loop-r
 invariant-loop span out₀ release work s₀ e₀ n₀ r₀ out s e n r = Walk release work span out₀ out s e n r × (s < e) × (r < span → released_at release r ≡ true)
 
-abbrev decreases-loop : tie.decreases-loop
+abbrev decreases-loop : tie.decreases-loop-r
 decreases-loop span out₀ release work s₀ e₀ n₀ r₀ out s e n r = span - r
 
 -- the walk of a call
@@ -27,121 +27,121 @@ abbrev Walked : tie.Start invariant-loop decreases-loop → List ℕ → ℕ →
 Walked c out s e n r = Walk c.args.task.release c.args.task.work c.args.span c.args.out.now out s e n r
 
 -- a turn starts at a release
-released : (c : tie.In-loop invariant-loop decreases-loop) → released_at c.before.before.before.before.before.before.args.task.release c.before.loop.r ≡ true
-released c = c.before.loop.invariant.2 c.loop-test.true
+released : (c : tie.In-loop-r invariant-loop decreases-loop) → released_at c.args.task.release c.loop-r.r ≡ true
+released c = c.loop-r.invariant.2 c.loop-r-test.true
 
 -- the release behind it
-follows : (c : tie.In-loop invariant-loop decreases-loop)
-    → let release = c.before.before.before.before.before.before.args.task.release in
-    Follows release c.before.loop.r (next_release release c.before.loop.r)
+follows : (c : tie.In-loop-r invariant-loop decreases-loop)
+    → let release = c.args.task.release in
+    Follows release c.loop-r.r (next_release release c.loop-r.r)
 follows c =
-    let p = c.before.before.before.before.before.before.requires in
-    next_follows _ _ p.0.release (omega (arith, p.1, c.loop-test.true)) (released c)
+    let p = c.requires in
+    next_follows _ _ p.0.release (omega (arith, p.1, c.loop-r-test.true)) (released c)
 
 -- the open window is closed if it ends before the release
-ready : (c : tie.Joined2 invariant-loop decreases-loop)
-    → let r = c.before.before.loop.r in
-    Walked c.before.before.before.before.before.before.before c.if2.out c.if2.s c.if2.e c.if2.n r × (r ≤ c.if2.e)
+ready : (c : tie.Joined-e-r invariant-loop decreases-loop)
+    → let r = c.loop-r.r in
+    Walked c.before.before.before.before.before.before.before c.if-e-r.out c.if-e-r.s c.if-e-r.e c.if-e-r.n r × (r ≤ c.if-e-r.e)
 ready c =
-    let inv = c.before.before.loop.invariant in
+    let inv = c.loop-r.invariant in
     ⊎_elim
-    (λ x. rw (x.5, x.6, x.7, x.8) (walk_close inv.0 x.0.taken c.before.loop-test.true x.2.ensures, omega arith))
+    (λ x. rw (x.5, x.6, x.7, x.8) (walk_close inv.0 x.0.taken c.loop-r-test.true x.2.ensures, omega arith))
     (λ x. rw (x.1, x.2, x.3, x.4) (inv.0, x.0.left))
-    c.if2.branch
+    c.if-e-r.branch
 
 -- the last window's end
-end_is : (c : tie.Joined3 invariant-loop decreases-loop) → c.if3.end ≡ min c.before.before.loop.e c.before.before.before.before.before.before.before.args.span
-end_is c = ⊎_elim (λ x. omega (arith, x.0.taken, x.1)) (λ x. omega (arith, x.0.left, x.1)) c.if3.branch
+end_is : (c : tie.Joined-e-span invariant-loop decreases-loop) → c.if-e-span.end ≡ min c.loop-r.e c.args.span
+end_is c = ⊎_elim (λ x. omega (arith, x.0.taken, x.1)) (λ x. omega (arith, x.0.left, x.1)) c.if-e-span.branch
 
 -- what is written in the end
-demanded : (c : tie.After-slice-known3 invariant-loop decreases-loop)
-    → let args = c.before.before.before.before.before.before.before.before.before.before.before.args in
-    Wrote args.out.now c.before.before.put2.new.0 c.before.before.put2.result (demand_of args.span args.task)
+demanded : (c : tie.After-slice_known-2-1 invariant-loop decreases-loop)
+    → let args = c.args in
+    Wrote args.out.now c.put.new.0 c.put.result (demand_of args.span args.task)
 demanded c =
-    let p = c.before.before.before.before.before.before.before.before.before.before.before.requires in
-    let inv = c.before.before.before.before.before.before.loop.invariant in
-    let d = rw (end_is c.before.before.before.before) at c.before.before.put2.ensures in
-    demand_last _ _ _ p.0 p.1 p.2 inv.0 c.before.before.before.before.before.loop-test.false d
+    let p = c.requires in
+    let inv = c.loop-r.invariant in
+    let d = rw (end_is c.before.before.before.before) at c.put.ensures in
+    demand_last _ _ _ p.0 p.1 p.2 inv.0 c.loop-r-test.false d
 
-first-release-requires : tie.Need-first-release-requires invariant-loop decreases-loop
+first-release-requires : tie.Need-first_release-s-requires invariant-loop decreases-loop
 first-release-requires c κs = tt
 
-returns : tie.Need-returns invariant-loop decreases-loop
+returns : tie.Need-returns-then-span-s invariant-loop decreases-loop
 returns c =
-    let p = c.before.before.before.requires in
-    demand_none _ _ _ p.0 p.1 p.2 (rw c.before.first-release.ensures at c.if1.true)
+    let p = c.requires in
+    demand_none _ _ _ p.0 p.1 p.2 (rw c.first_release-s.ensures at c.if-span-s.true)
 
-add-e : tie.Need-overflow-add-e invariant-loop decreases-loop
+add-e : tie.Need-overflow_add-e invariant-loop decreases-loop
 add-e c =
-    let p = c.before.before.before.requires in
+    let p = c.requires in
     let m = p.0.most in
-    let l = c.if1.false in
+    let l = c.if-span-s.false in
     search rules
 
-next-release-requires : tie.Need-next-release-requires invariant-loop decreases-loop
-next-release-requires c κs = let p = c.before.before.before.requires in (p.0.release, omega (arith, p.1, c.if1.false))
+next-release-requires : tie.Need-next_release-r-requires invariant-loop decreases-loop
+next-release-requires c κs = let p = c.requires in (p.0.release, omega (arith, p.1, c.if-span-s.false))
 
-loop-holds : tie.Need-loop-init invariant-loop decreases-loop
+loop-holds : tie.Need-loop-r-init invariant-loop decreases-loop
 loop-holds c =
-    let p = c.before.before.before.before.requires in
-    let i = c.before.before.first-release.ensures in
-    let release = c.before.before.before.before.args.task.release in
-    let h : first_release release < c.before.before.before.before.args.span = rw i at c.before.if1.false in
-    rw (c.next_release_lem.ensures, i) (
+    let p = c.requires in
+    let i = c.first_release-s.ensures in
+    let release = c.args.task.release in
+    let h : first_release release < c.args.span = rw i at c.if-span-s.false in
+    rw (c.next_release-r.ensures, i) (
       walk_first _ _ _ p.0 p.1 p.2 h,
       omega (arith, p.0.some),
       λ l. (next_follows release (first_release release) p.0.release (omega (arith, p.1, h)) (first_released release)).again (omega (arith, p.1)),
     )
 
-put-requires : tie.Need-put-requires invariant-loop decreases-loop
+put-requires : tie.Need-put-n-requires invariant-loop decreases-loop
 put-requires c κs =
-    let inv = c.before.before.before.loop.invariant in
-    let p = c.before.before.before.before.before.before.before.before.requires in
-    (inv.0.curve, inv.1, omega (arith, c.before.if2.true, c.before.before.loop-test.true, p.1))
+    let inv = c.loop-r.invariant in
+    let p = c.requires in
+    (inv.0.curve, inv.1, omega (arith, c.if-e-r.true, c.loop-r-test.true, p.1))
 
-add-e-2 : tie.Need-overflow-add-e-2 invariant-loop decreases-loop
+add-e-2 : tie.Need-overflow_add-e-in-loop-r invariant-loop decreases-loop
 add-e-2 c =
-    let p = c.before.before.before.before.before.before.before.before.requires in
+    let p = c.requires in
     let k = (ready c.before).0.bounded in
     let m = p.0.most in
     let l = p.1 in
-    let q = c.before.before.loop-test.true in
+    let q = c.loop-r-test.true in
     search rules
 
-next-release-requires-2 : tie.Need-next-release-requires-2 invariant-loop decreases-loop
+next-release-requires-2 : tie.Need-next_release-r-requires-in-loop-r invariant-loop decreases-loop
 next-release-requires-2 c κs =
-    let p = c.before.before.before.before.before.before.before.before.requires in
-    (p.0.release, omega (arith, p.1, c.before.before.loop-test.true))
+    let p = c.requires in
+    (p.0.release, omega (arith, p.1, c.loop-r-test.true))
 
-loop-less : tie.Need-loop-smaller invariant-loop decreases-loop
-loop-less c = omega (arith, c.before.before.before.loop-test.true, (follows c.before.before.before).later, c.«next-release2».ensures)
+loop-less : tie.Need-loop-r-smaller invariant-loop decreases-loop
+loop-less c = omega (arith, c.loop-r-test.true, (follows c.before.before.before).later, c.next_release-r-in-loop-r.ensures)
 
-loop-again : tie.Need-loop-preserved invariant-loop decreases-loop
+loop-again : tie.Need-loop-r-preserved invariant-loop decreases-loop
 loop-again c =
-    let p = c.before.before.before.before.before.before.before.before.before.requires in
+    let p = c.requires in
     let k = ready c.before.before in
     let f = follows c.before.before.before in
-    rw c.«next-release2».ensures (
+    rw c.next_release-r-in-loop-r.ensures (
       walk_next k.0 p.0.most k.1 (released c.before.before.before) f,
       omega (arith, k.0.within, k.1, p.0.some),
       λ l. f.again (omega (arith, p.1)),
     )
 
-put-requires-2 : tie.Need-put-requires-2 invariant-loop decreases-loop
+put-requires-2 : tie.Need-put-requires invariant-loop decreases-loop
 put-requires-2 c κs =
-    let inv = c.before.before.before.loop.invariant in
-    let p = c.before.before.before.before.before.before.before.before.requires in
+    let inv = c.loop-r.invariant in
+    let p = c.requires in
     let e = end_is c.before in
     (inv.0.curve, omega (arith, inv.1, inv.0.started, e), omega (arith, p.1, e))
 
-same_length : tie.Need-same-length invariant-loop decreases-loop
+same_length : tie.Need-shape_of-out invariant-loop decreases-loop
 same_length c = (demanded c).same
 
-returns-2 : tie.Need-returns-2 invariant-loop decreases-loop
+returns-2 : tie.Need-returns invariant-loop decreases-loop
 returns-2 c = demanded c
 
-pub demand-spec : {M : Type 1} → statement M
-demand-spec =
+pub demand_spec : {M : Type 1} → statement M
+demand_spec =
     tie.close
     (tie.spec
     invariant-loop

@@ -5,49 +5,39 @@ use borrow.Author.Rules.{rules}
 use Rattle.writing.proofs.line_writer.put_every.Statement.{statement}
 use Rattle.writing.proofs.line_writer.put_every.Tie as tie
 
-slice-aggregate-put-labelled : tie.Need-slice-aggregate-put-labelled
-slice-aggregate-put-labelled c = search rules
-
-put-labelled-requires : tie.Need-put-labelled-requires
+put-labelled-requires : tie.Need-put_labelled-n1-requires
 put-labelled-requires c κs = search rules
 
-put-field-requires : tie.Need-put-field-requires
+put-field-requires : tie.Need-put_field-n2-requires
 put-field-requires c κs = search rules
 
-put-field-requires-2 : tie.Need-put-field-requires-2
+put-field-requires-2 : tie.Need-put_field-n3-requires
 put-field-requires-2 c κs = search rules
 
-put-field-requires-3 : tie.Need-put-field-requires-3
+put-field-requires-3 : tie.Need-put_field-n4-requires
 put-field-requires-3 c κs = search rules
 
-put-field-requires-4 : tie.Need-put-field-requires-4
+put-field-requires-4 : tie.Need-put_field-n5-requires
 put-field-requires-4 c κs = search rules
 
-put-byte-requires : tie.Need-put-byte-requires
+put-byte-requires : tie.Need-put_byte-requires
 put-byte-requires c κs = search rules
 
-same_length : tie.Need-same-length
+same_length : tie.Need-shape_of-out
 same_length c = search rules
 
 returns : tie.Need-returns
 returns c =
-    let byte = c.before.before in
-    let deadline = byte.before.before.before.before in
-    let period = deadline.before.before.before.before in
-    let offset = period.before.before.before.before in
-    let work = offset.before.before.before.before in
-    let server = work.before.before.before.before in
     rw (every_put _ _ _ _ _)
-    (put_more server.put-labelled.ensures.0
-    (put_more work.put-field.ensures.0
-    (put_more offset.put-field2.ensures.0
-    (put_more period.put-field3.ensures.0 (put_more deadline.put-field4.ensures.0 byte.put_byte.ensures)))))
+    (put_more c.put_labelled-n1.ensures.0
+    (put_more c.put_field-n2.ensures.0
+    (put_more c.put_field-n3.ensures.0
+    (put_more c.put_field-n4.ensures.0 (put_more c.put_field-n5.ensures.0 c.put_byte.ensures)))))
 
-pub put-every-spec : {M : Type 1} → statement M
-put-every-spec =
+pub put_every_spec : {M : Type 1} → statement M
+put_every_spec =
     tie.close
     (tie.spec
-    slice-aggregate-put-labelled
     put-labelled-requires
     put-field-requires
     put-field-requires-2

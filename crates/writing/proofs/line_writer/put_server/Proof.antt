@@ -5,32 +5,28 @@ use borrow.Author.Rules.{rules}
 use Rattle.writing.proofs.line_writer.put_server.Statement.{statement}
 use Rattle.writing.proofs.line_writer.put_server.Tie as tie
 
-put-kind-requires : tie.Need-put-kind-requires
+put-kind-requires : tie.Need-put_kind-n1-requires
 put-kind-requires c κs = search rules
 
-put-field-requires : tie.Need-put-field-requires
+put-field-requires : tie.Need-put_field-n2-requires
 put-field-requires c κs = search rules
 
-put-field-requires-2 : tie.Need-put-field-requires-2
+put-field-requires-2 : tie.Need-put_field-n3-requires
 put-field-requires-2 c κs = search rules
 
-put-byte-requires : tie.Need-put-byte-requires
+put-byte-requires : tie.Need-put_byte-requires
 put-byte-requires c κs = search rules
 
-same_length : tie.Need-same-length
+same_length : tie.Need-shape_of-out
 same_length c = search rules
 
 returns : tie.Need-returns
 returns c =
-    let byte = c.before.before in
-    let period = byte.before.before.before.before in
-    let capacity = period.before.before.before.before in
-    let kind = capacity.before.before.before.before in
-    rw (server_put kind.before.before.before.args.server)
-    (put_more kind.put-kind.ensures.0 (put_more capacity.put-field.ensures.0 (put_more period.put-field2.ensures.0 byte.put_byte.ensures)))
+    rw (server_put c.args.server)
+    (put_more c.put_kind-n1.ensures.0 (put_more c.put_field-n2.ensures.0 (put_more c.put_field-n3.ensures.0 c.put_byte.ensures)))
 
-pub put-server-spec : {M : Type 1} → statement M
-put-server-spec =
+pub put_server_spec : {M : Type 1} → statement M
+put_server_spec =
     tie.close
     (tie.spec
     put-kind-requires

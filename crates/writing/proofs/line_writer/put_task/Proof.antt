@@ -4,34 +4,34 @@ use borrow.Author.Rules.{rules}
 use Rattle.writing.proofs.line_writer.put_task.Statement.{statement}
 use Rattle.writing.proofs.line_writer.put_task.Tie as tie
 
-enum-known-release : tie.Need-enum-known-release
+enum-known-release : tie.Need-enum_known-release
 enum-known-release c = search rules
 
-put-once-requires : tie.Need-put-once-requires
+put-once-requires : tie.Need-put_once-requires
 put-once-requires c κs = search rules
 
-enum-known-release-2 : tie.Need-enum-known-release-2
+enum-known-release-2 : tie.Need-enum_known-release-in-Every-1
 enum-known-release-2 c = search rules
 
-put-every-requires : tie.Need-put-every-requires
+put-every-requires : tie.Need-put_every-requires
 put-every-requires c κs = search rules
 
-same_length : tie.Need-same-length
+same_length : tie.Need-shape_of-out-in-Once
 same_length c = search rules
 
-returns : tie.Need-returns
+returns : tie.Need-returns-in-Once
 unfolding task_line
-returns c = let line = c.before.before in rw line.before.before.before.release.given.1 line.put-once.ensures
+returns c =rw c.in-Once.is c.put_once.ensures
 
-same-length-2 : tie.Need-same-length-2
+same-length-2 : tie.Need-shape_of-out-in-Every
 same-length-2 c = search rules
 
-returns-2 : tie.Need-returns-2
+returns-2 : tie.Need-returns-in-Every
 unfolding task_line
-returns-2 c = let line = c.before.before in rw line.before.before.before.release2.given.1 line.put-every.ensures
+returns-2 c =rw c.in-Every.is c.put_every.ensures
 
-pub put-task-spec : {M : Type 1} → statement M
-put-task-spec =
+pub put_task_spec : {M : Type 1} → statement M
+put_task_spec =
     tie.close
     (tie.spec
     enum-known-release
@@ -42,3 +42,4 @@ put-task-spec =
     returns
     same-length-2
     returns-2)
+

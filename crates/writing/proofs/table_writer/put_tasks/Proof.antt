@@ -12,70 +12,63 @@ use borrow.Author.Rules.{rules}
 use Rattle.writing.proofs.table_writer.put_tasks.Statement.{statement}
 use Rattle.writing.proofs.table_writer.put_tasks.Tie as tie
 
-abbrev invariant-loop : tie.invariant-loop
+abbrev invariant-loop : tie.invariant-loop-j
 invariant-loop out₀ n table at₀ j₀ out at j = Lining out₀ out n at (ended (map task_line (drop j (tasks_of table)))) (ended (map task_line (tasks_of table)))
 
-abbrev decreases-loop : tie.decreases-loop
+abbrev decreases-loop : tie.decreases-loop-j
 decreases-loop out₀ n table at₀ j₀ out at j = table.tasks_n - j
 
 -- the array holds what is counted
-held : (c : tie.Start invariant-loop decreases-loop) → c.args.t3.tasks_n ≤ length c.args.t3.tasks
-held c = let room : length c.args.t3.tasks ≡ 64 = search (rules, length_mapped) in omega (arith, c.requires.0)
+held : (c : tie.Start invariant-loop decreases-loop) → c.args.table.tasks_n ≤ length c.args.table.tasks
+held c = let room : length c.args.table.tasks ≡ 64 = search (rules, length_mapped) in omega (arith, c.requires.0)
 
-loop-holds : tie.Need-loop-init invariant-loop decreases-loop
-loop-holds c = lining_none _ _ _ c.before.requires.1
+loop-holds : tie.Need-loop-j-init invariant-loop decreases-loop
+loop-holds c = lining_none _ _ _ c.requires.1
 
-mul-task : tie.Need-overflow-mul-task invariant-loop decreases-loop
+mul-task : tie.Need-offset_bounds-table-j invariant-loop decreases-loop
 mul-task c = search rules
 
-element-copy-out-task : tie.Need-element-copy-out-task invariant-loop decreases-loop
-element-copy-out-task c = omega (arith, c.loop-test.true, held c.before.before.before)
+element-copy-out-task : tie.Need-bounds-table-j invariant-loop decreases-loop
+element-copy-out-task c = omega (arith, c.loop-j-test.true, held c.before.before.before)
 
-sub-put-task : tie.Need-overflow-sub-put-task invariant-loop decreases-loop
-sub-put-task c = omega (arith, c.before.before.loop.invariant.room)
+sub-put-task : tie.Need-slice_bounds-put_task-count invariant-loop decreases-loop
+sub-put-task c = omega (arith, c.loop-j.invariant.room)
 
-part-put-task-start : tie.Need-slice-bounds-put-task-start invariant-loop decreases-loop
-part-put-task-start c = omega (arith, c.before.before.loop.invariant.room)
+part-put-task-start : tie.Need-slice_bounds-put_task-start invariant-loop decreases-loop
+part-put-task-start c = omega (arith, c.loop-j.invariant.room)
 
-part-put-task-end : tie.Need-slice-bounds-put-task-end invariant-loop decreases-loop
+part-put-task-end : tie.Need-slice_bounds-put_task-end invariant-loop decreases-loop
 part-put-task-end c = search rules
 
-put-task-requires : tie.Need-put-task-requires invariant-loop decreases-loop
+put-task-requires : tie.Need-put_task-at-requires invariant-loop decreases-loop
 put-task-requires c κs = search rules
 
-add_at : tie.Need-overflow-add-at invariant-loop decreases-loop
+add_at : tie.Need-overflow_add-at invariant-loop decreases-loop
 add_at c =
-    let call = c.before.before in
-    let turn = call.before.before.before in
-    let start = turn.before.before.before in
-    let room = line_room task_line start.args.t3.tasks _ (held start) _ _ turn.loop-test.true turn.before.loop.invariant call.put-task.ensures in
+    let room = line_room task_line c.args.table.tasks _ (held c.before.before.before.before.before.before.before.before) _ _ c.loop-j-test.true c.loop-j.invariant c.put_task-at.ensures in
     search rules
 
-add-j : tie.Need-overflow-add-j invariant-loop decreases-loop
+add-j : tie.Need-overflow_add-j invariant-loop decreases-loop
 add-j c = search rules
 
-loop-less : tie.Need-loop-smaller invariant-loop decreases-loop
+loop-less : tie.Need-loop-j-smaller invariant-loop decreases-loop
 loop-less c = search rules
 
-loop-again : tie.Need-loop-preserved invariant-loop decreases-loop
+loop-again : tie.Need-loop-j-preserved invariant-loop decreases-loop
 loop-again c =
-    let call = c.before.before in
-    let turn = call.before.before.before in
-    let start = turn.before.before.before in
-    let part = turn.before.loop in
-    line_lined task_line start.args.t3.tasks _ (held start) _ _ part.out part.at (length part.out - part.at) turn.loop-test.true turn.before.loop.invariant
-    call.put-task.ensures (omega (arith, turn.before.loop.invariant.room))
+    let part = c.loop-j in
+    line_lined task_line c.args.table.tasks _ (held c.before.before.before.before.before.before.before.before) _ _ part.out part.at (length part.out - part.at) c.loop-j-test.true c.loop-j.invariant
+    c.put_task-at.ensures (omega (arith, c.loop-j.invariant.room))
 
 returns : tie.Need-returns invariant-loop decreases-loop
 returns c =
-    let start = c.before.before.before in
-    lines_lined task_line start.args.t3.tasks _ (held start) _ c.loop-test.false c.before.loop.invariant
+    lines_lined task_line c.args.table.tasks _ (held c.before.before.before) _ c.loop-j-test.false c.loop-j.invariant
 
-same_length : tie.Need-same-length invariant-loop decreases-loop
+same_length : tie.Need-shape_of-out invariant-loop decreases-loop
 same_length c = (returns c).same
 
-pub put-tasks-spec : {M : Type 1} → statement M
-put-tasks-spec =
+pub put_tasks_spec : {M : Type 1} → statement M
+put_tasks_spec =
     tie.close
     (tie.spec
     invariant-loop
