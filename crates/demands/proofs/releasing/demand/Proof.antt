@@ -4,7 +4,6 @@ use Prim.Native.Nat.{ℕ, ◌-◌, ◌≤◌, ◌<◌, min}
 use mathlib.Core.Path.{◌≡◌}
 use mathlib.Core.List.{List}
 use mathlib.Core.Bool.{true}
-use mathlib.Core.Logic.{⊎_elim}
 use native.Mathlib.Omega.{arith}
 use borrow.Author.Rules.{rules}
 use Rattle.table.specs.Releases.{released_at}
@@ -15,6 +14,7 @@ use Rattle.demands.proofs.Releases.{Follows, next_follows, first_released}
 use Rattle.demands.proofs.Openings.{Walk, walk_first, walk_close, walk_next, demand_none, demand_last}
 use Rattle.demands.proofs.releasing.demand.Statement.{statement}
 use Rattle.demands.proofs.releasing.demand.Tie as tie
+use Rattle.demands.proofs.releasing.demand.Lts.{then-e-r, else-e-r, then-e-span, else-e-span}
 
 abbrev invariant-loop : tie.invariant-loop-r
 invariant-loop span out₀ release work s₀ e₀ n₀ r₀ out s e n r = Walk release work span out₀ out s e n r × (s < e) × (r < span → released_at release r ≡ true)
@@ -44,19 +44,19 @@ ready : (c : tie.Joined-e-r invariant-loop decreases-loop)
     Walked c.before.before.before.before.before.before.before c.if-e-r.out c.if-e-r.s c.if-e-r.e c.if-e-r.n r × (r ≤ c.if-e-r.e)
 ready c =
     let inv = c.loop-r.invariant in
-    ⊎_elim
-    (λ x. rw (x.5, x.6, x.7, x.8) (walk_close inv.0 x.0.taken c.loop-r-test.true x.2.ensures, omega arith))
-    (λ x. rw (x.1, x.2, x.3, x.4) (inv.0, x.0.left))
-    c.if-e-r.branch
+    elim c.if-e-r.branch [
+      | then-e-r x ↦ rw (x.out-is, x.s-is, x.e-is, x.n-is) (walk_close inv.0 x.if-e-r.true c.loop-r-test.true x.put-n.ensures, omega arith)
+      | else-e-r x ↦ rw (x.out-is, x.s-is, x.e-is, x.n-is) (inv.0, x.if-e-r.false)
+    ]
 
 -- the last window's end
 end_is : (c : tie.Joined-e-span invariant-loop decreases-loop) → c.if-e-span.end ≡ min c.loop-r.e c.args.span
-end_is c = ⊎_elim (λ x. omega (arith, x.0.taken, x.1)) (λ x. omega (arith, x.0.left, x.1)) c.if-e-span.branch
+end_is c = elim c.if-e-span.branch [ then-e-span x ↦ omega (arith, x.if-e-span.true, x.end-is) | else-e-span x ↦ omega (arith, x.if-e-span.false, x.end-is) ]
 
 -- what is written in the end
 demanded : (c : tie.After-slice_known-2-1 invariant-loop decreases-loop)
     → let args = c.args in
-    Wrote args.out.now c.put.new.0 c.put.result (demand_of args.span args.task)
+    Wrote args.out.now c.put.new.out c.put.result (demand_of args.span args.task)
 demanded c =
     let p = c.requires in
     let inv = c.loop-r.invariant in

@@ -14,15 +14,14 @@ write-requires c κs =
     (p.0.plain, p.1.plain, sum_fits a.span a.a.now a.b.now a.out.now p.2 p.3 p.0 p.1 p.4)
 
 -- the sum stands in the buffer
-summed : (c : tie.After-write-n) → let a = c.args in Wrote a.out.now c.write-n.new.1.1.0 c.write-n.result (add_up a.a.now a.b.now)
+summed : (c : tie.After-write-n) → let a = c.args in Wrote a.out.now c.write-n.new.out c.write-n.result (add_up a.a.now a.b.now)
 summed c =
     let a = c.args in
     let p = c.requires in
     sum_wrote a.span a.a.now a.b.now a.out.now p.2 p.3 p.0 p.1 p.4 c.write-n.ensures
 
 cut-off-requires : tie.Need-cut_off-requires
-cut-off-requires d κs =
-    let c = d.before.before.before in
+cut-off-requires c κs =
     let a = c.args in
     let p = c.requires in
     let w = summed c.before.before.before in (
@@ -35,9 +34,8 @@ same_length : tie.Need-shape_of-out
 same_length c = search rules
 
 returns : tie.Need-returns
-returns d =
-    let c = d.before.before.before.before.before.before in
-    written_cut c.args.span (summed c.before.before.before.before.before.before) d.before.before.cut_off.ensures
+returns c =
+    written_cut c.args.span (summed c.before.before.before.before.before.before) c.cut_off.ensures
 
 pub add_below_spec : {M : Type 1} → statement M
 add_below_spec = tie.close (tie.spec write-requires cut-off-requires same_length returns)

@@ -18,7 +18,7 @@ abbrev start : tie.After-demand-m → tie.Start
 start c = c.before.before.before.before.before
 
 abbrev demanded : tie.After-add_below-k → tie.After-demand-m
-demanded c = c.before.before.before.before.before.before
+demanded c = c.before.before.before.before
 
 demand-requires : tie.Need-demand-m-requires
 demand-requires c κs = let p = c.requires in (p.0, p.2, p.4)
@@ -33,29 +33,28 @@ slice-reshare-prefix-add-below-2 : tie.Need-slice_bounds-add_below-end-3
 slice-reshare-prefix-add-below-2 c = c.demand-m.ensures.count
 
 slice-aggregate-add-below-2 : tie.Need-slice_bounds-add_below-end-4
-slice-aggregate-add-below-2 c = sym (length-take-le c.demand-m.result c.demand-m.new.1.1.0 c.demand-m.ensures.count)
+slice-aggregate-add-below-2 c = sym (length-take-le c.demand-m.result c.demand-m.new.out c.demand-m.ensures.count)
 
 -- the demand that was written is a plain curve below the span
-part-plain : (c : tie.After-demand-m) → PlainBelow c.args.span (take c.demand-m.result c.demand-m.new.1.1.0)
+part-plain : (c : tie.After-demand-m) → PlainBelow c.args.span (take c.demand-m.result c.demand-m.new.out)
 part-plain c = let p = c.requires in rw c.demand-m.ensures.front (demand_plain c.args.task c.args.span p.0 p.2)
 
 add-below-requires : tie.Need-add_below-k-requires
 add-below-requires c κs =
-    let p = (start c.before.before.before.before.before).requires in
+    let p = (start c.before.before.before).requires in
     (p.3.curve, part-plain c.before.before.before, p.1, p.2, p.5)
 
 slice-reshare-prefix-copy : tie.Need-slice_bounds-copy-end
 slice-reshare-prefix-copy c = c.add_below-k.ensures.count
 
 slice-aggregate-copy : tie.Need-slice_bounds-copy-end-2
-slice-aggregate-copy c = sym (length-take-le c.add_below-k.result c.add_below-k.new.1.1.1.0 c.add_below-k.ensures.count)
+slice-aggregate-copy c = sym (length-take-le c.add_below-k.result c.add_below-k.new.out c.add_below-k.ensures.count)
 
 copy-requires : tie.Need-copy-requires
 copy-requires c κs =
-    let d = demanded c.before.before.before.before in
-    let a = (start d).args in
-    let p = (start d).requires in
-    let few = sum_room a.span (take a.n a.sum.now) (take d.demand.result d.demand.last.1.1.0) a.spare.now p.1 p.2 p.3.curve (part-plain d) p.5 in
+    let a = (start (demanded c.before.before.before)).args in
+    let p = (start (demanded c.before.before.before)).requires in
+    let few = sum_room a.span (take a.n a.sum.now) (take (demanded c.before.before.before).demand-m.result (demanded c.before.before.before).demand-m.new.out) a.spare.now p.1 p.2 p.3.curve (part-plain (demanded c.before.before.before)) p.5 in
     rw c.add_below-k.ensures.front (omega (arith, few, p.3.room))
 
 same_length : tie.Need-shape_of-sum
@@ -69,11 +68,10 @@ same-length-3 c = search rules
 
 returns : tie.Need-returns
 returns c =
-    let d = demanded c.before.before.before.before.before.before.before in
-    let a = (start d).args in (
-      written_same (ap (λ (l : List ℕ). below a.span (add_up (take a.n a.sum.now) l)) d.demand.ensures.front)
+    let a = (start (demanded c.before.before.before.before.before.before)).args in (
+      written_same (ap (λ (l : List ℕ). below a.span (add_up (take a.n a.sum.now) l)) (demanded c.before.before.before.before.before.before).demand-m.ensures.front)
           (written_copied c.add_below-k.ensures c.copy.ensures),
-      d.demand.ensures.same,
+      (demanded c.before.before.before.before.before.before).demand-m.ensures.same,
       c.add_below-k.ensures.same,
     )
 
