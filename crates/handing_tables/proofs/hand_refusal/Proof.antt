@@ -6,5 +6,5 @@ use Rattle.handing_tables.proofs.hand_refusal.Tie as tie
 returns : tie.Need-returns
 returns c = refl
 
-pub hand-refusal-spec : {M : Type 1} → statement M
-hand-refusal-spec = tie.close (tie.spec returns)
+pub hand_refusal_spec : {M : Type 1} → statement M
+hand_refusal_spec = tie.close (tie.spec returns)

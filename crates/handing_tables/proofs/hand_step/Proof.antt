@@ -4,28 +4,28 @@ use borrow.Author.Rules.{rules}
 use Rattle.handing_tables.proofs.hand_step.Statement.{statement}
 use Rattle.handing_tables.proofs.hand_step.Tie as tie
 
-enum_told : tie.Need-enum-told
+enum_told : tie.Need-enum_told-1
 enum_told c = search rules
 
-step-table-requires : tie.Need-step-table-requires
+step-table-requires : tie.Need-step_table-requires
 step-table-requires c κs = search rules
 
-enum-known-answer : tie.Need-enum-known-answer
+enum-known-answer : tie.Need-enum_known-answer
 enum-known-answer c = search rules
 
-hand-no-step-requires : tie.Need-hand-no-step-requires
+hand-no-step-requires : tie.Need-hand_no_step-requires
 hand-no-step-requires c κs = search rules
 
-returns : tie.Need-returns
-returns c = rw c.before.before.before.before.before.before.enum_told.given.1 c.step-table.ensures
+returns : tie.Need-returns-in-Accepted
+returns c = rw c.in-Accepted.is c.step_table.ensures
 
-returns-2 : tie.Need-returns-2
+returns-2 : tie.Need-returns-in-Refused
 returns-2 c =
-    let h = c.hand-no-step.ensures in
-    rw c.before.before.before.before.before.before.answer.given.1 (record { refusal_is = h.0; next = refl; holds = h.1; runs = h.2 })
+    let h = c.hand_no_step.ensures in
+    rw c.in-Refused.is (record { refusal_is = h.0; next = refl; holds = h.1; runs = h.2 })
 
-pub hand-step-spec : {M : Type 1} → statement M
-hand-step-spec =
+pub hand_step_spec : {M : Type 1} → statement M
+hand_step_spec =
     tie.close
     (tie.spec
     enum_told

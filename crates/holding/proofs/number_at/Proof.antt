@@ -5,17 +5,17 @@ use borrow.Author.Rules.{rules}
 use Rattle.holding.proofs.number_at.Statement.{statement}
 use Rattle.holding.proofs.number_at.Tie as tie
 
-mul-result : tie.Need-overflow-mul-result
+mul-result : tie.Need-offset_bounds-curve-i
 mul-result c = search rules
 
-shared-slice-read-result : tie.Need-shared-slice-read-result
+shared-slice-read-result : tie.Need-bounds-curve-i
 shared-slice-read-result c = search rules
 
-returns : tie.Need-returns
+returns : tie.Need-returns-then-i-curve
 returns c = search rules
 
-returns-2 : tie.Need-returns-2
-returns-2 c = sym (get_or-eq_default c.before.args.curve.now 0 c.if1.false)
+returns-2 : tie.Need-returns
+returns-2 c = sym (get_or-eq_default c.args.curve.now 0 c.if-i-curve.false)
 
-pub number-at-spec : {M : Type 1} → statement M
-number-at-spec = tie.close (tie.spec mul-result shared-slice-read-result returns returns-2)
+pub number_at_spec : {M : Type 1} → statement M
+number_at_spec = tie.close (tie.spec mul-result shared-slice-read-result returns returns-2)

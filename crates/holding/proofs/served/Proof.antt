@@ -4,38 +4,38 @@ use borrow.Author.Rules.{rules}
 use Rattle.holding.proofs.served.Statement.{statement}
 use Rattle.holding.proofs.served.Tie as tie
 
-add-end : tie.Need-overflow-add-end
+add-end : tie.Need-overflow_add-end
 add-end c = search rules
 
-mul-end : tie.Need-overflow-mul-end
+mul-end : tie.Need-offset_bounds-demand-d
 mul-end c = search rules
 
-shared-slice-read-end : tie.Need-shared-slice-read-end
+shared-slice-read-end : tie.Need-bounds-demand-d
 shared-slice-read-end c = search rules
 
-sub-n : tie.Need-overflow-sub-n
+sub-n : tie.Need-overflow_sub-n
 sub-n c = search rules
 
-add-wanted : tie.Need-overflow-add-wanted
+add-wanted : tie.Need-overflow_add-wanted
 add-wanted c = search rules
 
-sub-budget : tie.Need-overflow-sub-budget
+sub-budget : tie.Need-overflow_sub-budget
 sub-budget c = search rules
 
-returns : tie.Need-returns
-returns c = served_part c.before.before.before.before.before.before.requires c.if1.true
+returns : tie.Need-returns-then-wanted-end
+returns c = served_part c.requires c.if-wanted-end.true
 
-add-behind : tie.Need-overflow-add-behind
+add-behind : tie.Need-overflow_add-behind
 add-behind c = search rules
 
-number-at-requires : tie.Need-number-at-requires
+number-at-requires : tie.Need-number_at-next-requires
 number-at-requires c κs = search rules
 
-returns-2 : tie.Need-returns-2
-returns-2 c = rw c.number_at.ensures (served_whole c.before.before.before.before.before.before.before.requires c.before.if1.false)
+returns-2 : tie.Need-returns
+returns-2 c = rw c.number_at-next.ensures (served_whole c.requires c.if-wanted-end.false)
 
-pub served-spec : {M : Type 1} → statement M
-served-spec =
+pub served_spec : {M : Type 1} → statement M
+served_spec =
     tie.close
     (tie.spec
     add-end

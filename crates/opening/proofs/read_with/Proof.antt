@@ -8,14 +8,14 @@ use Rattle.opening.proofs.read_with.Tie as tie
 refused-requires : tie.Need-refused-requires
 refused-requires c κs = search rules
 
-returns : tie.Need-returns
-returns c = rw (not-true c.before.before.before.args.room c.before.if1.true) c.refused.ensures
+returns : tie.Need-returns-then-not-room
+returns c = rw (c.if-not-room.true) c.refused.ensures
 
 read-requires : tie.Need-read-requires
 read-requires c κs = search rules
 
-returns-2 : tie.Need-returns-2
-returns-2 c = rw (not-false c.before.before.before.args.room c.before.if1.false) c.read.ensures
+returns-2 : tie.Need-returns
+returns-2 c = rw (c.if-not-room.false) c.read.ensures
 
-pub read-with-spec : {M : Type 1} → statement M
-read-with-spec = tie.close (tie.spec refused-requires returns read-requires returns-2)
+pub read_with_spec : {M : Type 1} → statement M
+read_with_spec = tie.close (tie.spec refused-requires returns read-requires returns-2)

@@ -6,43 +6,39 @@ use borrow.Author.Tests.{eq-eqb, ne_eqb}
 use Rattle.printing.proofs.put_report.Statement.{statement}
 use Rattle.printing.proofs.put_report.Tie as tie
 
-put-refused-requires : tie.Need-put-refused-requires
+put-refused-requires : tie.Need-put_refused-requires
 put-refused-requires c κs = search rules
 
-same_length : tie.Need-same-length
+same_length : tie.Need-shape_of-out-then-refusal-ne0
 same_length c = search rules
 
-returns : tie.Need-returns
+returns : tie.Need-returns-then-refusal-ne0
 unfolding report_of
 returns c =
-    let refused = c.before.before in
-    (rw (ne_eqb _ _ refused.before.before.if1.true) refused.Put-refused.ensures.0, search rules)
+    (rw (ne_eqb _ _ c.if-refusal-ne0.true) c.put_refused.ensures.0, search rules)
 
-put-span-requires : tie.Need-put-span-requires
+put-span-requires : tie.Need-put_span-n1-requires
 put-span-requires c κs = search rules
 
-put-servers-requires : tie.Need-put-servers-requires
+put-servers-requires : tie.Need-put_servers-n2-requires
 put-servers-requires c κs = search rules
 
-put-tasks-requires : tie.Need-put-tasks-requires
+put-tasks-requires : tie.Need-put_tasks-requires
 put-tasks-requires c κs = search rules
 
-same-length-2 : tie.Need-same-length-2
+same-length-2 : tie.Need-shape_of-out
 same-length-2 c = search rules
 
-returns-2 : tie.Need-returns-2
+returns-2 : tie.Need-returns
 unfolding report_of
-returns-2 c =
-    let tasks = c.before.before in
-    let servers = tasks.before.before.before.before in
-    let span = servers.before.before.before.before in (
-      rw (eq-eqb _ _ span.before.before.if1.false)
-          (put_more span.put-span.ensures.0 (put_more servers.put-servers.ensures.0 tasks.put-tasks.ensures.0)),
-      search rules,
-    )
+returns-2 c = (
+  rw (eq-eqb _ _ c.if-refusal-ne0.false)
+      (put_more c.put_span-n1.ensures.0 (put_more c.put_servers-n2.ensures.0 c.put_tasks.ensures.0)),
+  search rules,
+)
 
-pub put-report-spec : {M : Type 1} → statement M
-put-report-spec =
+pub put_report_spec : {M : Type 1} → statement M
+put_report_spec =
     tie.close
     (tie.spec
     put-refused-requires

@@ -12,60 +12,57 @@ use borrow.Author.Rules.{rules}
 use Rattle.printing.proofs.put_tasks.Statement.{statement}
 use Rattle.printing.proofs.put_tasks.Tie as tie
 
-abbrev invariant-loop : tie.invariant-loop
+abbrev invariant-loop : tie.invariant-loop-j
 invariant-loop out₀ n analysis m₀ j₀ out m j =
     let lines = task_lines analysis.tasks in
     let count = analysis.tasks_n in
     Begun out₀ out n m (lines (count - j) j) (lines count 0) × (m + 56 * (count - j) ≤ n + 3584)
 
-abbrev decreases-loop : tie.decreases-loop
+abbrev decreases-loop : tie.decreases-loop-j
 decreases-loop out₀ n analysis m₀ j₀ out m j = analysis.tasks_n - j
 
 -- the place is inside the answers
-inside : (c : tie.In-loop invariant-loop decreases-loop) → c.before.loop.j < length c.before.before.before.args.t3.tasks
+inside : (c : tie.In-loop-j invariant-loop decreases-loop) → c.loop-j.j < length c.args.analysis.tasks
 inside c =
-    let start = c.before.before.before in
-    let room : length start.args.t3.tasks ≡ 64 = search (rules, length_mapped) in
-    omega (arith, c.loop-test.true, start.requires.1)
+    let room : length c.args.analysis.tasks ≡ 64 = search (rules, length_mapped) in
+    omega (arith, c.loop-j-test.true, c.requires.1)
 
-loop-holds : tie.Need-loop-init invariant-loop decreases-loop
+loop-holds : tie.Need-loop-j-init invariant-loop decreases-loop
 loop-holds c = (rw sub-zero (begun_none _ _ _), search rules)
 
-cast-number : tie.Need-overflow-cast-number invariant-loop decreases-loop
+cast-number : tie.Need-overflow_cast-number invariant-loop decreases-loop
 cast-number c = search rules
 
-add-number : tie.Need-overflow-add-number invariant-loop decreases-loop
+add-number : tie.Need-overflow_add-number invariant-loop decreases-loop
 add-number c = search rules
 
-mul-answer : tie.Need-overflow-mul-answer invariant-loop decreases-loop
+mul-answer : tie.Need-offset_bounds-analysis-j invariant-loop decreases-loop
 mul-answer c = search rules
 
-element-copy-out-answer : tie.Need-element-copy-out-answer invariant-loop decreases-loop
+element-copy-out-answer : tie.Need-bounds-analysis-j invariant-loop decreases-loop
 element-copy-out-answer c = omega (arith, inside c)
 
-put-task-requires : tie.Need-put-task-requires invariant-loop decreases-loop
+put-task-requires : tie.Need-put_task-m-requires invariant-loop decreases-loop
 put-task-requires c κs = search rules
 
-add-j : tie.Need-overflow-add-j invariant-loop decreases-loop
+add-j : tie.Need-overflow_add-j invariant-loop decreases-loop
 add-j c = search rules
 
-loop-less : tie.Need-loop-smaller invariant-loop decreases-loop
+loop-less : tie.Need-loop-j-smaller invariant-loop decreases-loop
 loop-less c = search rules
 
-loop-again : tie.Need-loop-preserved invariant-loop decreases-loop
+loop-again : tie.Need-loop-j-preserved invariant-loop decreases-loop
 loop-again c =
-    let line = c.before.before in
-    let turn = line.before.before.before in
-    (line_put _ _ _ _ _ _ turn.loop-test.true (inside turn) turn.before.loop.invariant.0 line.put-task.ensures.0, search rules)
+    (line_put _ _ _ _ _ _ c.loop-j-test.true (inside c.before.before.before.before.before) c.loop-j.invariant.0 c.put_task-m.ensures.0, search rules)
 
 returns : tie.Need-returns invariant-loop decreases-loop
-returns c = (lines_put _ _ _ _ _ c.loop-test.false c.before.loop.invariant.0, search rules)
+returns c = (lines_put _ _ _ _ _ c.loop-j-test.false c.loop-j.invariant.0, search rules)
 
-same_length : tie.Need-same-length invariant-loop decreases-loop
+same_length : tie.Need-shape_of-out invariant-loop decreases-loop
 same_length c = (returns c).0.same
 
-pub put-tasks-spec : {M : Type 1} → statement M
-put-tasks-spec =
+pub put_tasks_spec : {M : Type 1} → statement M
+put_tasks_spec =
     tie.close
     (tie.spec
     invariant-loop

@@ -12,60 +12,56 @@ use Rattle.serving.proofs.ServerTicks.{span_drawn, empty_curve}
 use Rattle.serving.proofs.wanted.Statement.{statement}
 use Rattle.serving.proofs.wanted.Tie as tie
 
-mul-server : tie.Need-overflow-mul-server
-mul-server c = search (rules, servers_most c.before.before.before.args.t1 c.before.before.before.requires.0)
+mul-server : tie.Need-offset_bounds-table-i
+mul-server c = search (rules, servers_most c.args.table c.requires.0)
 
-element-copy-out-server : tie.Need-element-copy-out-server
-element-copy-out-server c = search (rules, servers_most c.before.before.before.args.t1 c.before.before.before.requires.0)
+element-copy-out-server : tie.Need-bounds-table-i
+element-copy-out-server c = search (rules, servers_most c.args.table c.requires.0)
 
-cast-number : tie.Need-overflow-cast-number
-cast-number c = search (rules, servers_most c.before.before.before.before.args.t1 c.before.before.before.before.requires.0)
+cast-number : tie.Need-overflow_cast-number
+cast-number c = search (rules, servers_most c.args.table c.requires.0)
 
-add-number : tie.Need-overflow-add-number
-add-number c = search (rules, servers_most c.before.before.before.before.args.t1 c.before.before.before.before.requires.0)
+add-number : tie.Need-overflow_add-number
+add-number c = search (rules, servers_most c.args.table c.requires.0)
 
-enum_told : tie.Need-enum-told
+enum_told : tie.Need-enum_told-1
 enum_told c = search rules
 
-sum-tasks-requires : tie.Need-sum-tasks-requires
-sum-tasks-requires c κs = let p = c.before.before.before.before.before.before.before.before.before.requires in (p.0, omega arith, p.2, p.3, p.4)
+sum-tasks-requires : tie.Need-sum_tasks-requires
+sum-tasks-requires c κs = let p = c.requires in (p.0, omega arith, p.2, p.3, p.4)
 
-enum-told-2 : tie.Need-enum-told-2
+enum-told-2 : tie.Need-enum_told-in-Periodic
 enum-told-2 c = search rules
 
 put-requires : tie.Need-put-requires
-put-requires c κs = let p = c.before.before.before.before.before.before.before.requires in let a = c.before.before.before.before.before.before.before.args in (empty_curve a.sum.now p.2, span_some a.t1 p.0, span_most a.t1 p.0)
+put-requires c κs = let p = c.requires in let a = c.args in (empty_curve a.sum.now p.2, span_some a.table p.0, span_most a.table p.0)
 
-same_length : tie.Need-same-length
+same_length : tie.Need-shape_of-sum-in-Deferrable
 same_length c = search rules
 
-same-length-2 : tie.Need-same-length-2
+same-length-2 : tie.Need-shape_of-part
 same-length-2 c = search rules
 
-same-length-3 : tie.Need-same-length-3
+same-length-3 : tie.Need-shape_of-spare
 same-length-3 c = search rules
 
-returns : tie.Need-returns
+returns : tie.Need-returns-in-Deferrable
 returns c =
-    let s = c.before.before.before.before.before.before in
-    let told = s.before.before.before.before in
-    let a = told.before.before.before.before.before.before.args in
-    let e = s.sum-tasks.ensures in
+    let a = c.args in
+    let e = c.sum_tasks.ensures in
     let place : (a.i + 1) - 1 ≡ a.i = omega arith in
-    let same : summed a.t1 ((a.i + 1) - 1) ≡ wanted_by (server_at a.t1 a.i).kind a.t1 a.i = rw (place, told.enum_told.given.1) in
+    let same : summed a.table ((a.i + 1) - 1) ≡ wanted_by (server_at a.table a.i).kind a.table a.i = rw (place, c.in-Deferrable.is) in
     (written_same same e.0, e.1, e.2)
 
-same-length-4 : tie.Need-same-length-4
+same-length-4 : tie.Need-shape_of-sum-in-Periodic
 same-length-4 c = search rules
 
-returns-2 : tie.Need-returns-2
+returns-2 : tie.Need-returns-in-Periodic
 returns-2 c =
-    let told = c.before.before.before.before in
-    let s = told.before.before.before.before.before.before in
-    rw told.enum-told2.given.1 (span_drawn s.args.t1.span (span_most s.args.t1 s.requires.0) c.before.before.put.ensures, refl, refl)
+    rw c.in-Periodic.is (span_drawn c.args.table.span (span_most c.args.table c.requires.0) c.put.ensures, refl, refl)
 
-pub wanted-spec : {M : Type 1} → statement M
-wanted-spec =
+pub wanted_spec : {M : Type 1} → statement M
+wanted_spec =
     tie.close
     (tie.spec
     mul-server

@@ -4,11 +4,11 @@ use Rattle.judging.proofs.Asked.{lies_early, lies_late}
 use Rattle.judging.proofs.covering.lies_in.Statement.{statement}
 use Rattle.judging.proofs.covering.lies_in.Tie as tie
 
-returns : tie.Need-returns
-returns c = sym (lies_early c.before.args.s c.before.args.e c.before.args.tick c.if1.true)
+returns : tie.Need-returns-then-tick-s
+returns c = sym (lies_early c.args.s c.args.e c.args.tick c.if-tick-s.true)
 
-returns-2 : tie.Need-returns-2
-returns-2 c = sym (lies_late c.before.args.s c.before.args.e c.before.args.tick c.if1.false)
+returns-2 : tie.Need-returns
+returns-2 c = sym (lies_late c.args.s c.args.e c.args.tick c.if-tick-s.false)
 
-pub lies-in-spec : {M : Type 1} → statement M
-lies-in-spec = tie.close (tie.spec returns returns-2)
+pub lies_in_spec : {M : Type 1} → statement M
+lies_in_spec = tie.close (tie.spec returns returns-2)

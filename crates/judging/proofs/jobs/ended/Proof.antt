@@ -12,22 +12,22 @@ use Rattle.judging.proofs.jobs.ended.Statement.{statement}
 use Rattle.judging.proofs.jobs.ended.Tie as tie
 
 -- the margin, as it is held
-held : (c : tie.After-margin)
-    → let a = c.before.before.args in
-    to_z w32 (of_z w32 c.margin.result) ≡ margin_of a.deadline a.worst.response
+held : (c : tie.After-margin-margin)
+    → let a = c.args in
+    to_z w32 (of_z w32 c.margin-margin.result) ≡ margin_of a.deadline a.worst.response
 held c =
-    let a = c.before.before.args in
-    let p = c.before.before.requires in
-    ap (λ (z : ℤ). to_z w32 (of_z w32 z)) c.margin.ensures ∙ to_z-of_z (difference_fits a.deadline a.worst.response (omega (arith, p.0)) (omega (arith, p.1)))
+    let a = c.args in
+    let p = c.requires in
+    ap (λ (z : ℤ). to_z w32 (of_z w32 z)) c.margin-margin.ensures ∙ to_z-of_z (difference_fits a.deadline a.worst.response (omega (arith, p.0)) (omega (arith, p.1)))
 
-margin-requires : tie.Need-margin-requires
+margin-requires : tie.Need-margin-margin-requires
 margin-requires c κs = search rules
 
-returns : tie.Need-returns
-returns c = rw (held c, c.before.if1.true)
+returns : tie.Need-returns-then-worst
+returns c = rw (held c, c.if-worst.true)
 
-returns-2 : tie.Need-returns-2
+returns-2 : tie.Need-returns
 returns-2 c = search rules
 
-pub ended-spec : {M : Type 1} → statement M
-ended-spec = tie.close (tie.spec margin-requires returns returns-2)
+pub ended_spec : {M : Type 1} → statement M
+ended_spec = tie.close (tie.spec margin-requires returns returns-2)

@@ -11,111 +11,105 @@ use Rattle.judging.proofs.JobsAhead.{Judging, judging_starts, judging_ends, next
 use Rattle.judging.proofs.jobs.judge.Statement.{statement}
 use Rattle.judging.proofs.jobs.judge.Tie as tie
 
-abbrev invariant-loop : tie.invariant-loop
+abbrev invariant-loop : tie.invariant-loop-r
 invariant-loop task span running release work worst₀ passed₀ amount₀ r₀ worst passed amount r = Judging task span running worst passed amount r
 
-abbrev decreases-loop : tie.decreases-loop
+abbrev decreases-loop : tie.decreases-loop-r
 decreases-loop task span running release work worst₀ passed₀ amount₀ r₀ worst passed amount r = span - r
 
 -- the start of the call, at each turn
-abbrev start : tie.In-loop invariant-loop decreases-loop → tie.Start invariant-loop decreases-loop
+abbrev start : tie.In-loop-r invariant-loop decreases-loop → tie.Start invariant-loop decreases-loop
 start c = c.before.before.before.before
 
 -- the release behind that of the turn
-follows : (c : tie.In-loop invariant-loop decreases-loop)
+follows : (c : tie.In-loop-r invariant-loop decreases-loop)
     → let release = (start c).args.task.release in
-    Follows release c.before.loop.r (next_release release c.before.loop.r)
-follows c = let p = (start c).requires in next_release_lem c.before.loop.invariant p.0 p.2 c.loop-test.true
+    Follows release c.loop-r.r (next_release release c.loop-r.r)
+follows c = let p = (start c).requires in next_release_lem c.loop-r.invariant p.0 p.2 c.loop-r-test.true
 
 -- its job ends in the span
-end-so : (c : tie.Else1 invariant-loop decreases-loop)
-    → let k = c.before.before.before in
-    let p = c.before.before.pass-amount.result in
-    get_or (start k).args.running.now (2 * p.windows) 0 + (k.before.loop.amount - p.given) ≤ (start k).args.span
+end-so : (c : tie.Else-running-i invariant-loop decreases-loop)
+    →
+    let p = c.pass_amount-passed.result in
+    get_or (start c.before.before.before).args.running.now (2 * p.windows) 0 + (c.loop-r.amount - p.given) ≤ (start c.before.before.before).args.span
 end-so c =
-    let k = c.before.before.before in
-    let p = (start k).requires in
-    let e = c.before.before.pass-amount.ensures in
-    end_below k.before.loop.invariant p.0 p.2 k.loop-test.true e.0 e.1 e.2 c.if1.false p.3
+    let p = (start c.before.before.before).requires in
+    let e = c.pass_amount-passed.ensures in
+    end_below c.loop-r.invariant p.0 p.2 c.loop-r-test.true e.0 e.1 e.2 c.if-running-i.false p.3
 
-first-release-requires : tie.Need-first-release-requires invariant-loop decreases-loop
+first-release-requires : tie.Need-first_release-r-requires invariant-loop decreases-loop
 first-release-requires c κs = tt
 
-loop-holds : tie.Need-loop-init invariant-loop decreases-loop
-loop-holds c = let p = c.before.before.requires in rw c.first-release.ensures (judging_starts _ _ _ p.0)
+loop-holds : tie.Need-loop-r-init invariant-loop decreases-loop
+loop-holds c = let p = c.requires in rw c.first_release-r.ensures (judging_starts _ _ _ p.0)
 
-pass-amount-requires : tie.Need-pass-amount-requires invariant-loop decreases-loop
+pass-amount-requires : tie.Need-pass_amount-passed-requires invariant-loop decreases-loop
 pass-amount-requires c κs =
     let p = (start c).requires in
-    let v = c.before.loop.invariant in
-    (p.3.plain, v.passes, v.above, omega (arith, v.most, p.2, c.loop-test.true))
+    let v = c.loop-r.invariant in
+    (p.3.plain, v.passes, v.above, omega (arith, v.most, p.2, c.loop-r-test.true))
 
-mul-i : tie.Need-overflow-mul-i invariant-loop decreases-loop
+mul-i : tie.Need-overflow_mul-i invariant-loop decreases-loop
 mul-i c = search rules
 
-returns : tie.Need-returns invariant-loop decreases-loop
+returns : tie.Need-returns-then-running-i invariant-loop decreases-loop
 returns c =
-    let k = c.before.before.before in
-    let p = (start k).requires in
-    let e = c.before.before.pass-amount.ensures in
-    let j = judging_unfinished k.before.loop.invariant p.0 p.2 k.loop-test.true e.0 e.1 e.2 c.if1.true in
-    sym (ap (response_of (start k).args.task.deadline) j)
+    let p = (start c.before.before.before).requires in
+    let e = c.pass_amount-passed.ensures in
+    let j = judging_unfinished c.loop-r.invariant p.0 p.2 c.loop-r-test.true e.0 e.1 e.2 c.if-running-i.true in
+    sym (ap (response_of (start c.before.before.before).args.task.deadline) j)
 
-mul-end : tie.Need-overflow-mul-end invariant-loop decreases-loop
+mul-end : tie.Need-offset_bounds-running-i invariant-loop decreases-loop
 mul-end c = search rules
 
-shared-slice-read-end : tie.Need-shared-slice-read-end invariant-loop decreases-loop
-shared-slice-read-end c = c.before.if1.false
+shared-slice-read-end : tie.Need-bounds-running-i invariant-loop decreases-loop
+shared-slice-read-end c = c.if-running-i.false
 
-sub-end : tie.Need-overflow-sub-end invariant-loop decreases-loop
+sub-end : tie.Need-overflow_sub-end invariant-loop decreases-loop
 sub-end c = search rules
 
-add-end : tie.Need-overflow-add-end invariant-loop decreases-loop
+add-end : tie.Need-overflow_add-end invariant-loop decreases-loop
 add-end c = let k = end-so c.before.before in search rules
 
 since-requires : tie.Need-since-requires invariant-loop decreases-loop
 since-requires c κs = tt
 
-worse-requires : tie.Need-worse-requires invariant-loop decreases-loop
+worse-requires : tie.Need-worse-worst-requires invariant-loop decreases-loop
 worse-requires c κs = tt
 
-add-amount : tie.Need-overflow-add-amount invariant-loop decreases-loop
+add-amount : tie.Need-overflow_add-amount invariant-loop decreases-loop
 add-amount c = search rules
 
-next-release-requires : tie.Need-next-release-requires invariant-loop decreases-loop
+next-release-requires : tie.Need-next_release-r-requires invariant-loop decreases-loop
 next-release-requires c κs =
-    let k = c.before.before.before.before.before.before.before in
-    let p = (start k).requires in
-    (p.0.release, omega (arith, p.2, k.loop-test.true))
+    let p = (start c.before.before.before.before.before.before.before).requires in
+    (p.0.release, omega (arith, p.2, c.loop-r-test.true))
 
-loop-less : tie.Need-loop-smaller invariant-loop decreases-loop
+loop-less : tie.Need-loop-r-smaller invariant-loop decreases-loop
 loop-less c =
-    let k = c.before.before.before.before.before.before.before.before in
-    omega (arith, k.loop-test.true, (follows k).later, c.next_release_lem.ensures)
+    omega (arith, c.loop-r-test.true, (follows c.before.before.before.before.before.before.before.before).later, c.next_release-r.ensures)
 
-loop-again : tie.Need-loop-preserved invariant-loop decreases-loop
+loop-again : tie.Need-loop-r-preserved invariant-loop decreases-loop
 loop-again c =
-    let f = c.before.before.before.before.before in
-    let k = f.before.before.before in
-    let p = (start k).requires in
-    let v = k.before.loop.invariant in
-    let e = f.before.before.pass-amount.ensures in
-    let w = c.before.worse.ensures in
-    let s = c.before.before.since.ensures in
-    rw c.next_release_lem.ensures
-    (judging_next v p.0 p.2 k.loop-test.true e.0 e.1 e.2 f.if1.false
-    (rw s at w.0) (w.1 v.short (omega (arith, s, end-so f, p.2))))
+    let p = (start c.before.before.before.before.before.before.before.before).requires in
+    let v = c.loop-r.invariant in
+    let e = c.pass_amount-passed.ensures in
+    let w = c.worse-worst.ensures in
+    let s = c.since.ensures in
+    rw c.next_release-r.ensures
+    (judging_next v p.0 p.2 c.loop-r-test.true e.0 e.1 e.2 c.if-running-i.false
+    (rw s at w.0) (w.1 v.short (omega (arith, s, end-so c.before.before.before.before.before, p.2))))
 
 ended-requires : tie.Need-ended-requires invariant-loop decreases-loop
-ended-requires c κs = (c.before.before.before.before.requires.1, c.before.loop.invariant.short)
+ended-requires c κs = (c.requires.1, c.loop-r.invariant.short)
 
-returns-2 : tie.Need-returns-2 invariant-loop decreases-loop
+returns-2 : tie.Need-returns invariant-loop decreases-loop
 returns-2 c =
-    let j = judging_ends c.before.before.loop.invariant c.before.loop-test.false in
-    c.ended.ensures ∙ sym (ap (response_of c.before.before.before.before.before.args.task.deadline) j)
+    let j = judging_ends c.loop-r.invariant c.loop-r-test.false in
+    c.ended.ensures ∙ sym (ap (response_of c.args.task.deadline) j)
 
-pub judge-spec : {M : Type 1} → statement M
-judge-spec =
+pub judge_spec : {M : Type 1} → statement M
+judge_spec =
     tie.close
     (tie.spec
     invariant-loop

@@ -18,17 +18,17 @@ values c = rw (to_z_pos w32 {n = c.args.deadline} (omega (arith, c.requires.0)),
 fits : (c : tie.Start) → SFits w32 (pos c.args.deadline -ℤ pos c.args.response)
 fits c = difference_fits c.args.deadline c.args.response (omega (arith, c.requires.0)) (omega (arith, c.requires.1))
 
-cast-result : tie.Need-overflow-cast-result
+cast-result : tie.Need-overflow_cast-result
 cast-result c = search rules
 
-cast-result-2 : tie.Need-overflow-cast-result-2
+cast-result-2 : tie.Need-overflow_cast-result-2
 cast-result-2 c = search rules
 
-sub-result : tie.Need-overflow-sub-result
+sub-result : tie.Need-overflow_sub-result
 sub-result c = rw (values c) (fits c)
 
 returns : tie.Need-returns
 returns c = rw (values c) (to_z-of_z (fits c))
 
-pub margin-spec : {M : Type 1} → statement M
-margin-spec = tie.close (tie.spec cast-result cast-result-2 sub-result returns)
+pub margin_spec : {M : Type 1} → statement M
+margin_spec = tie.close (tie.spec cast-result cast-result-2 sub-result returns)

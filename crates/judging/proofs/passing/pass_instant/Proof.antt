@@ -9,72 +9,69 @@ use Rattle.judging.proofs.Instants.{given_before, ends_more}
 use Rattle.judging.proofs.passing.pass_instant.Statement.{statement}
 use Rattle.judging.proofs.passing.pass_instant.Tie as tie
 
-abbrev invariant-loop : tie.invariant-loop
+abbrev invariant-loop : tie.invariant-loop-w
 invariant-loop curve instant count w₀ given₀ w given = Passes curve (record { windows = w; given = given }) × EndsBy curve w instant
 
-abbrev decreases-loop : tie.decreases-loop
+abbrev decreases-loop : tie.decreases-loop-w
 decreases-loop curve instant count w₀ given₀ w given = count - w
 
 -- the window of a turn
-here : (c : tie.In-loop invariant-loop decreases-loop) → WindowAt 0 c.before.before.args.curve.now (2 * c.before.loop.w)
-here c = next_window c.before.before.requires.0 c.before.loop.w (omega (arith, c.loop-test.true))
+here : (c : tie.In-loop-w invariant-loop decreases-loop) → WindowAt 0 c.args.curve.now (2 * c.loop-w.w)
+here c = next_window c.requires.0 c.loop-w.w (omega (arith, c.loop-w-test.true))
 
-loop-holds : tie.Need-loop-init invariant-loop decreases-loop
+loop-holds : tie.Need-loop-w-init invariant-loop decreases-loop
 loop-holds c = (c.requires.1, c.requires.2)
 
-mul-end : tie.Need-overflow-mul-end invariant-loop decreases-loop
+mul-end : tie.Need-overflow_mul-end invariant-loop decreases-loop
 mul-end c = search rules
 
-add-end : tie.Need-overflow-add-end invariant-loop decreases-loop
+add-end : tie.Need-overflow_add-end invariant-loop decreases-loop
 add-end c = search rules
 
-mul-end-2 : tie.Need-overflow-mul-end-2 invariant-loop decreases-loop
+mul-end-2 : tie.Need-offset_bounds-curve-w invariant-loop decreases-loop
 mul-end-2 c = search rules
 
-shared-slice-read-end : tie.Need-shared-slice-read-end invariant-loop decreases-loop
+shared-slice-read-end : tie.Need-bounds-curve-w invariant-loop decreases-loop
 shared-slice-read-end c = search rules
 
-mul-given : tie.Need-overflow-mul-given invariant-loop decreases-loop
+mul-given : tie.Need-overflow_mul-given invariant-loop decreases-loop
 mul-given c = search rules
 
-mul-given-2 : tie.Need-overflow-mul-given-2 invariant-loop decreases-loop
+mul-given-2 : tie.Need-offset_bounds-curve-w-in-loop-w invariant-loop decreases-loop
 mul-given-2 c = search rules
 
-shared-slice-read-given : tie.Need-shared-slice-read-given invariant-loop decreases-loop
+shared-slice-read-given : tie.Need-bounds-curve-w-in-loop-w invariant-loop decreases-loop
 shared-slice-read-given c = search rules
 
-sub-given : tie.Need-overflow-sub-given invariant-loop decreases-loop
+sub-given : tie.Need-overflow_sub-given invariant-loop decreases-loop
 sub-given c = omega (arith, (here c.before.before.before).rises)
 
-add-given : tie.Need-overflow-add-given invariant-loop decreases-loop
+add-given : tie.Need-overflow_add-given invariant-loop decreases-loop
 add-given c =
-    let k = c.before.before.before.before in
-    let start = given_before k.before.requires.0 k.loop.invariant.0 (omega arith) in
+    let start = given_before c.requires.0 c.loop-w.invariant.0 (omega arith) in
     let rises = (here c.before.before.before).rises in
-    let end = c.shared-slice-known2.given (2 * k.loop.w + 1) in
+    let end = c.shared_slice_known-in-loop-w-1.given (2 * c.loop-w.w + 1) in
     search rules
 
-add-w : tie.Need-overflow-add-w invariant-loop decreases-loop
+add-w : tie.Need-overflow_add-w invariant-loop decreases-loop
 add-w c = search rules
 
-loop-less : tie.Need-loop-smaller invariant-loop decreases-loop
+loop-less : tie.Need-loop-w-smaller invariant-loop decreases-loop
 loop-less c = search rules
 
-loop-again : tie.Need-loop-preserved invariant-loop decreases-loop
+loop-again : tie.Need-loop-w-preserved invariant-loop decreases-loop
 loop-again c =
-    let k = c.before.before.before.before in
-    (passes_more k.before.requires.0 k.loop.invariant.0 (omega arith), ends_more k.before.args.curve.now k.loop.w _ c.before.if1.false)
+    (passes_more c.requires.0 c.loop-w.invariant.0 (omega arith), ends_more c.args.curve.now c.loop-w.w _ c.if-instant-end.false)
 
-returns : tie.Need-returns invariant-loop decreases-loop
+returns : tie.Need-returns-after-loop-w invariant-loop decreases-loop
 returns c =
-    let k = c.before in
-    (k.loop.invariant.0, k.loop.invariant.1, λ h. absurd (omega (arith, passed_all _ k.loop.w k.before.requires.0 c.loop-test.false)))
+    (c.loop-w.invariant.0, c.loop-w.invariant.1, λ h. absurd (omega (arith, passed_all _ c.loop-w.w c.requires.0 c.loop-w-test.false)))
 
-returns-2 : tie.Need-returns-2 invariant-loop decreases-loop
-returns-2 c = let v = c.before.before.before.loop.invariant in (v.0, v.1, λ h. c.if1.true)
+returns-2 : tie.Need-returns-then-instant-end invariant-loop decreases-loop
+returns-2 c = let v = c.loop-w.invariant in (v.0, v.1, λ h. c.if-instant-end.true)
 
-pub pass-instant-spec : {M : Type 1} → statement M
-pass-instant-spec =
+pub pass_instant_spec : {M : Type 1} → statement M
+pass_instant_spec =
     tie.close
     (tie.spec
     invariant-loop

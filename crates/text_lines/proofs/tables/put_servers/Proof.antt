@@ -5,41 +5,41 @@ use borrow.Author.Rules.{rules}
 use Rattle.text_lines.proofs.tables.put_servers.Statement.{statement}
 use Rattle.text_lines.proofs.tables.put_servers.Tie as tie
 
-abbrev invariant-loop : tie.invariant-loop
+abbrev invariant-loop : tie.invariant-loop-i
 invariant-loop out₀ n table m₀ i₀ out m i = Unit {0}
 
-abbrev decreases-loop : tie.decreases-loop
+abbrev decreases-loop : tie.decreases-loop-i
 decreases-loop out₀ n table m₀ i₀ out m i = 16 - i
 
-loop-holds : tie.Need-loop-init invariant-loop decreases-loop
+loop-holds : tie.Need-loop-i-init invariant-loop decreases-loop
 loop-holds c = search rules
 
-mul-server : tie.Need-overflow-mul-server invariant-loop decreases-loop
+mul-server : tie.Need-offset_bounds-table-i invariant-loop decreases-loop
 mul-server c = search rules
 
-element-copy-out-server : tie.Need-element-copy-out-server invariant-loop decreases-loop
+element-copy-out-server : tie.Need-bounds-table-i invariant-loop decreases-loop
 element-copy-out-server c = search (rules, length_mapped)
 
-put-server-requires : tie.Need-put-server-requires invariant-loop decreases-loop
+put-server-requires : tie.Need-put_server-m-requires invariant-loop decreases-loop
 put-server-requires c κs = search rules
 
-add-i : tie.Need-overflow-add-i invariant-loop decreases-loop
+add-i : tie.Need-overflow_add-i invariant-loop decreases-loop
 add-i c = search rules
 
-loop-less : tie.Need-loop-smaller invariant-loop decreases-loop
+loop-less : tie.Need-loop-i-smaller invariant-loop decreases-loop
 loop-less c = search rules
 
-loop-again : tie.Need-loop-preserved invariant-loop decreases-loop
+loop-again : tie.Need-loop-i-preserved invariant-loop decreases-loop
 loop-again c = search rules
 
-returns : tie.Need-returns invariant-loop decreases-loop
+returns : tie.Need-returns-after-loop-i invariant-loop decreases-loop
 returns c = search rules
 
-returns-2 : tie.Need-returns-2 invariant-loop decreases-loop
+returns-2 : tie.Need-returns-then-table-i invariant-loop decreases-loop
 returns-2 c = search rules
 
-pub put-servers-spec : {M : Type 1} → statement M
-put-servers-spec =
+pub put_servers_spec : {M : Type 1} → statement M
+put_servers_spec =
     tie.close
     (tie.spec
     invariant-loop
