@@ -5,53 +5,53 @@ use borrow.Author.Rules.{rules}
 use Rattle.watching.proofs.servers.server_answers.Statement.{statement}
 use Rattle.watching.proofs.servers.server_answers.Tie as tie
 
-abbrev invariant-loop : tie.invariant-loop
+abbrev invariant-loop : tie.invariant-loop-i
 invariant-loop count ticks holders table answers₀ i₀ answers i = Unit {0}
 
-abbrev decreases-loop : tie.decreases-loop
+abbrev decreases-loop : tie.decreases-loop-i
 decreases-loop count ticks holders table answers₀ i₀ answers i = count - i
 
-no-answer-requires : tie.Need-no-answer-requires invariant-loop decreases-loop
+no-answer-requires : tie.Need-no_answer-none-requires invariant-loop decreases-loop
 no-answer-requires c κs = search rules
 
-loop-holds : tie.Need-loop-init invariant-loop decreases-loop
+loop-holds : tie.Need-loop-i-init invariant-loop decreases-loop
 loop-holds c = search rules
 
-mul-server : tie.Need-overflow-mul-server invariant-loop decreases-loop
+mul-server : tie.Need-offset_bounds-table-i invariant-loop decreases-loop
 mul-server c = search rules
 
-element-copy-out-server : tie.Need-element-copy-out-server invariant-loop decreases-loop
+element-copy-out-server : tie.Need-bounds-table-i invariant-loop decreases-loop
 element-copy-out-server c = search (rules, length_mapped)
 
-cast-number : tie.Need-overflow-cast-number invariant-loop decreases-loop
+cast-number : tie.Need-overflow_cast-number invariant-loop decreases-loop
 cast-number c = search rules
 
-add-number : tie.Need-overflow-add-number invariant-loop decreases-loop
+add-number : tie.Need-overflow_add-number invariant-loop decreases-loop
 add-number c = search rules
 
-server-answer-requires : tie.Need-server-answer-requires invariant-loop decreases-loop
+server-answer-requires : tie.Need-server_answer-requires invariant-loop decreases-loop
 server-answer-requires c κs = search rules
 
-mul-answers : tie.Need-overflow-mul-answers invariant-loop decreases-loop
+mul-answers : tie.Need-offset_bounds-answers-i invariant-loop decreases-loop
 mul-answers c = search rules
 
-array-set-from-answers : tie.Need-array-set-from-answers invariant-loop decreases-loop
+array-set-from-answers : tie.Need-bounds-answers-i invariant-loop decreases-loop
 array-set-from-answers c = search (rules, length_mapped)
 
-add-i : tie.Need-overflow-add-i invariant-loop decreases-loop
+add-i : tie.Need-overflow_add-i invariant-loop decreases-loop
 add-i c = search rules
 
-loop-less : tie.Need-loop-smaller invariant-loop decreases-loop
+loop-less : tie.Need-loop-i-smaller invariant-loop decreases-loop
 loop-less c = search rules
 
-loop-again : tie.Need-loop-preserved invariant-loop decreases-loop
+loop-again : tie.Need-loop-i-preserved invariant-loop decreases-loop
 loop-again c = search rules
 
 returns : tie.Need-returns invariant-loop decreases-loop
 returns c = search rules
 
-pub server-answers-spec : {M : Type 1} → statement M
-server-answers-spec =
+pub server_answers_spec : {M : Type 1} → statement M
+server_answers_spec =
     tie.close
     (tie.spec
     invariant-loop
