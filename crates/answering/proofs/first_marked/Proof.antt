@@ -8,40 +8,40 @@ use Rattle.table.proofs.Places.{Walk, walk_starts, walk_finds, walk_goes_on, wal
 use Rattle.answering.proofs.first_marked.Statement.{statement}
 use Rattle.answering.proofs.first_marked.Tie as tie
 
-abbrev invariant-loop : tie.invariant-loop
+abbrev invariant-loop : tie.invariant-loop-i
 invariant-loop count marks i₀ i = Walk (λ k. get_or marks k false) count i
 
-abbrev decreases-loop : tie.decreases-loop
+abbrev decreases-loop : tie.decreases-loop-i
 decreases-loop count marks i₀ i = count - i
 
-loop-holds : tie.Need-loop-init invariant-loop decreases-loop
+loop-holds : tie.Need-loop-i-init invariant-loop decreases-loop
 loop-holds c = walk_starts _ _
 
-array-read-if1 : tie.Need-array-read-if1 invariant-loop decreases-loop
+array-read-if1 : tie.Need-bounds-marks-i invariant-loop decreases-loop
 array-read-if1 c = search rules
 
-cast-result : tie.Need-overflow-cast-result invariant-loop decreases-loop
+cast-result : tie.Need-overflow_cast-result invariant-loop decreases-loop
 cast-result c = search rules
 
-add-result : tie.Need-overflow-add-result invariant-loop decreases-loop
+add-result : tie.Need-overflow_add-result invariant-loop decreases-loop
 add-result c = search rules
 
-returns : tie.Need-returns invariant-loop decreases-loop
-returns c = sym (walk_finds c.before.before.loop.invariant c.before.loop-test.true c.if1.true)
+returns : tie.Need-returns-then-marks-i invariant-loop decreases-loop
+returns c = sym (walk_finds c.loop-i.invariant c.loop-i-test.true c.if-marks-i.true)
 
-add-i : tie.Need-overflow-add-i invariant-loop decreases-loop
+add-i : tie.Need-overflow_add-i invariant-loop decreases-loop
 add-i c = search rules
 
-loop-less : tie.Need-loop-smaller invariant-loop decreases-loop
+loop-less : tie.Need-loop-i-smaller invariant-loop decreases-loop
 loop-less c = search rules
 
-loop-again : tie.Need-loop-preserved invariant-loop decreases-loop
-loop-again c = walk_goes_on c.before.before.loop.invariant c.before.loop-test.true c.if1.false
+loop-again : tie.Need-loop-i-preserved invariant-loop decreases-loop
+loop-again c = walk_goes_on c.loop-i.invariant c.loop-i-test.true c.if-marks-i.false
 
-returns-2 : tie.Need-returns-2 invariant-loop decreases-loop
-returns-2 c = sym (walk_ends c.before.loop.invariant c.loop-test.false)
+returns-2 : tie.Need-returns invariant-loop decreases-loop
+returns-2 c = sym (walk_ends c.loop-i.invariant c.loop-i-test.false)
 
-pub first-marked-spec : {M : Type 1} → statement M
-first-marked-spec =
+pub first_marked_spec : {M : Type 1} → statement M
+first_marked_spec =
     tie.close
     (tie.spec invariant-loop decreases-loop loop-holds array-read-if1 cast-result add-result returns add-i loop-less loop-again returns-2)
