@@ -11,47 +11,42 @@ use Rattle.putting.proofs.Rooms.{room_refused, room_written}
 use Rattle.reporting.proofs.report.Statement.{statement}
 use Rattle.reporting.proofs.report.Tie as tie
 
-analysed-requires : tie.Need-analysed-requires
+analysed-requires : tie.Need-analysed-analysis-requires
 analysed-requires c κs = search rules
 
 -- the analysis is of its size
-sized : (c : tie.After-analysed) → Sized c.analysed.result
-sized c = rw c.analysed.ensures (analysis_sized c.before.before.before.args.text.now)
+sized : (c : tie.After-analysed-analysis) → Sized c.analysed-analysis.result
+sized c = rw c.analysed-analysis.ensures (analysis_sized c.args.text.now)
 
-count-requires : tie.Need-count-requires
+count-requires : tie.Need-count-n-requires
 count-requires c κs = ((sized c).servers_most, (sized c).tasks_most)
 
 -- how many bytes the report has
-counted : (c : tie.After-count) → c.count.result ≡ length (report_for c.before.before.before.before.args.text.now)
-counted c = c.count.ensures ∙ ap (λ (a : Analysis). length (report_of a)) c.before.analysed.ensures
+counted : (c : tie.After-count-n) → c.count-n.result ≡ length (report_for c.args.text.now)
+counted c = c.count-n.ensures ∙ ap (λ (a : Analysis). length (report_of a)) c.analysed-analysis.ensures
 
 refused-requires : tie.Need-refused-requires
 refused-requires c κs = search rules
 
-returns : tie.Need-returns
+returns : tie.Need-returns-then-out-n
 returns c =
-    let count = c.before.before in
-    let a = count.before.before.before.before.args in
-    rw c.refused.ensures (room_refused (report_for a.text.now) a.out.now (omega (arith, c.before.if1.true, counted count)))
+    let a = c.args in
+    rw c.refused.ensures (room_refused (report_for a.text.now) a.out.now (omega (arith, c.if-out-n.true, counted c.before.before)))
 
-put-report-requires : tie.Need-put-report-requires
+put-report-requires : tie.Need-put_report-requires
 put-report-requires c κs = let s = sized c.before.before.before in (s.servers_most, s.tasks_most)
 
-same_length : tie.Need-same-length
+same_length : tie.Need-shape_of-out
 same_length c = search rules
 
-returns-2 : tie.Need-returns-2
+returns-2 : tie.Need-returns
 returns-2 c =
-    let put = c.before.before in
-    let test = put.before.before in
-    let count = test.before in
-    let analysed = count.before in
-    let a = analysed.before.before.before.args in
-    rw (counted count)
-    (room_written (report_for a.text.now) a.out.now (omega (arith, test.if1.false, counted count))
-    (rw analysed.analysed.ensures at put.put-report.ensures.0))
+    let a = c.args in
+    rw (counted c.before.before.before.before.before)
+    (room_written (report_for a.text.now) a.out.now (omega (arith, c.if-out-n.false, counted c.before.before.before.before.before))
+    (rw c.analysed-analysis.ensures at c.put_report.ensures.0))
 
-pub report-spec : {M : Type 1} → statement M
-report-spec =
+pub report_spec : {M : Type 1} → statement M
+report_spec =
     tie.close
     (tie.spec analysed-requires count-requires refused-requires returns put-report-requires same_length returns-2)

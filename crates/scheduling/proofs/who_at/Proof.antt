@@ -6,43 +6,43 @@ use Rattle.scheduling.proofs.who_at.Statement.{statement}
 use Rattle.scheduling.proofs.who_at.Tie as tie
 
 -- what was worked out, from the end
-abbrev worked : tie.After-told → tie.After-work-out
+abbrev worked : tie.After-told → tie.After-work_out-worked
 worked c = c.before.before.before.before.before.before.before.before.before.before.before.before.before
 
-work-out-requires : tie.Need-work-out-requires
+work-out-requires : tie.Need-work_out-worked-requires
 work-out-requires c κs = search rules
 
 told-requires : tie.Need-told-requires
-told-requires c κs = works_few _ _ _ _ c.before.before.before.before.before.before.before.before.before.before.before.before.work-out.ensures.0
+told-requires c κs = works_few _ _ _ _ c.work_out-worked.ensures.0
 
-same_length : tie.Need-same-length
-same_length c = (worked c).work-out.auto.1.1.0
+same_length : tie.Need-shape_of-free
+same_length c = (worked c).work_out-worked.auto.free
 
-same-length-2 : tie.Need-same-length-2
-same-length-2 c = (worked c).work-out.auto.1.1.1.0
+same-length-2 : tie.Need-shape_of-sum
+same-length-2 c = (worked c).work_out-worked.auto.sum
 
-same-length-3 : tie.Need-same-length-3
-same-length-3 c = (worked c).work-out.auto.1.1.1.1.0
+same-length-3 : tie.Need-shape_of-part
+same-length-3 c = (worked c).work_out-worked.auto.part
 
-same-length-4 : tie.Need-same-length-4
-same-length-4 c = (worked c).work-out.auto.1.1.1.1.1.0
+same-length-4 : tie.Need-shape_of-held
+same-length-4 c = (worked c).work_out-worked.auto.held
 
-same-length-5 : tie.Need-same-length-5
-same-length-5 c = (worked c).work-out.auto.1.1.1.1.1.1.0
+same-length-5 : tie.Need-shape_of-running
+same-length-5 c = (worked c).work_out-worked.auto.running
 
-same-length-6 : tie.Need-same-length-6
-same-length-6 c = (worked c).work-out.auto.1.1.1.1.1.1.1.0
+same-length-6 : tie.Need-shape_of-spare
+same-length-6 c = (worked c).work_out-worked.auto.spare
 
 returns : tie.Need-returns
 returns c =
-    let w = (worked c).work-out.ensures in
+    let w = (worked c).work_out-worked.ensures in
     record {
       answer = c.told.ensures ∙ told_is _ _ _ _ w.0;
       buffers = rw c.told.ensures w.1;
     }
 
-pub who-at-spec : {M : Type 1} → statement M
-who-at-spec =
+pub who_at_spec : {M : Type 1} → statement M
+who_at_spec =
     tie.close
     (tie.spec
     work-out-requires
