@@ -4,11 +4,11 @@ use borrow.Author.Rules.{rules}
 use Rattle.handing.proofs.listing.server_numbers.Statement.{statement}
 use Rattle.handing.proofs.listing.server_numbers.Tie as tie
 
-short-number-requires : tie.Need-short-number-requires
+short-number-requires : tie.Need-short_number-first-requires
 short-number-requires c κs = search rules
 
 returns : tie.Need-returns
-returns c = rw c.short-number.ensures refl
+returns c = rw c.short_number-first.ensures refl
 
-pub server-numbers-spec : {M : Type 1} → statement M
-server-numbers-spec = tie.close (tie.spec short-number-requires returns)
+pub server_numbers_spec : {M : Type 1} → statement M
+server_numbers_spec = tie.close (tie.spec short-number-requires returns)

@@ -4,34 +4,34 @@ use borrow.Author.Rules.{rules}
 use Rattle.text_buffers.proofs.lending.look.Statement.{statement}
 use Rattle.text_buffers.proofs.lending.look.Tie as tie
 
-abbrev invariant-loop : tie.invariant-loop
+abbrev invariant-loop : tie.invariant-loop-i
 invariant-loop count array seen₀ i₀ seen i = Unit {0}
 
-abbrev decreases-loop : tie.decreases-loop
+abbrev decreases-loop : tie.decreases-loop-i
 decreases-loop count array seen₀ i₀ seen i = 16016 - i
 
-loop-holds : tie.Need-loop-init invariant-loop decreases-loop
+loop-holds : tie.Need-loop-i-init invariant-loop decreases-loop
 loop-holds c = search rules
 
-mul-with-number : tie.Need-overflow-mul-with-number invariant-loop decreases-loop
+mul-with-number : tie.Need-offset_bounds-array-i invariant-loop decreases-loop
 mul-with-number c = search rules
 
-array-read-with-number : tie.Need-array-read-with-number invariant-loop decreases-loop
+array-read-with-number : tie.Need-bounds-array-i invariant-loop decreases-loop
 array-read-with-number c = search rules
 
 pattern-requires : tie.Need-pattern-requires invariant-loop decreases-loop
 pattern-requires c κs = search rules
 
-with-number-requires : tie.Need-with-number-requires invariant-loop decreases-loop
+with-number-requires : tie.Need-with_number-seen-requires invariant-loop decreases-loop
 with-number-requires c κs = search rules
 
-add-i : tie.Need-overflow-add-i invariant-loop decreases-loop
+add-i : tie.Need-overflow_add-i invariant-loop decreases-loop
 add-i c = search rules
 
-loop-less : tie.Need-loop-smaller invariant-loop decreases-loop
+loop-less : tie.Need-loop-i-smaller invariant-loop decreases-loop
 loop-less c = search rules
 
-loop-again : tie.Need-loop-preserved invariant-loop decreases-loop
+loop-again : tie.Need-loop-i-preserved invariant-loop decreases-loop
 loop-again c = search rules
 
 returns : tie.Need-returns invariant-loop decreases-loop
