@@ -5,6 +5,7 @@ use rewriting::rewrite;
 
 // The numbers under which a program reads its standard input and writes its standard output.
 const STANDARD_INPUT: i32 = 0;
+
 const STANDARD_OUTPUT: i32 = 1;
 
 // More bytes than a table's text may have: of a longer input, no more has to be read.

@@ -5,31 +5,31 @@ use borrow.Author.Rules.{rules}
 use Rattle.rewrite.proofs.answer.Statement.{statement}
 use Rattle.rewrite.proofs.answer.Tie as tie
 
-slice-aggregate-rewrite : tie.Need-slice-aggregate-rewrite
-slice-aggregate-rewrite c = search rules
+rewrite-end : tie.Need-slice_bounds-rewrite-end
+rewrite-end c = search rules
 
-rewrite-requires : tie.Need-rewrite-requires
+rewrite-requires : tie.Need-rewrite-n-requires
 rewrite-requires c κs = search rules
 
-array-share-prefix-out : tie.Need-array-share-prefix-out
-array-share-prefix-out c = search rules
+out-end : tie.Need-slice_bounds-out-end
+out-end c = search rules
 
-slice-aggregate-write-all : tie.Need-slice-aggregate-write-all
-slice-aggregate-write-all c = sym (length-take-le _ _ (array-share-prefix-out c.before))
+write-all-end : tie.Need-slice_bounds-write_all-end
+write-all-end c = sym (length-take-le _ _ (out-end c.before))
 
-write-all-requires : tie.Need-write-all-requires
+write-all-requires : tie.Need-write_all-requires
 write-all-requires c κs = search rules
 
 returns : tie.Need-returns
 returns c = search rules
 
-pub answer-spec : {M : Type 1} → statement M
-answer-spec =
+pub answer_spec : {M : Type 1} → statement M
+answer_spec =
     tie.close
     (tie.spec
-    slice-aggregate-rewrite
+    rewrite-end
     rewrite-requires
-    array-share-prefix-out
-    slice-aggregate-write-all
+    out-end
+    write-all-end
     write-all-requires
     returns)

@@ -4,39 +4,35 @@ use borrow.Author.Rules.{rules}
 use Rattle.rewriting.proofs.put_table.Statement.{statement}
 use Rattle.rewriting.proofs.put_table.Tie as tie
 
-write-requires : tie.Need-write-requires
+write-requires : tie.Need-write-written-requires
 write-requires c κs = search rules
 
-enum-known-written : tie.Need-enum-known-written
+enum-known-written : tie.Need-enum_known-written
 enum-known-written c = search rules
 
-enum_told : tie.Need-enum-told
+enum_told : tie.Need-enum_told-1
 enum_told c = search rules
 
-same_length : tie.Need-same-length
+same_length : tie.Need-shape_of-out-in-Count
 same_length c = search rules
 
-returns : tie.Need-returns
+returns : tie.Need-returns-in-Count
 returns c =
-    let written = c.before.before.before.before.before in
-    let start = written.before.before.before in
-    let a = start.args in
-    let w = written.write.ensures in (
-      obeyed_count a.table a.out.now start.requires.0 start.requires.1 w c.before.written.given.1,
-      obeyed_front a.table a.out.now start.requires.0 start.requires.1 w,
+    let a = c.args in
+    let w = c.write-written.ensures in (
+      obeyed_count a.table a.out.now c.requires.0 c.requires.1 w c.in-Count.is,
+      obeyed_front a.table a.out.now c.requires.0 c.requires.1 w,
     )
 
-same-length-2 : tie.Need-same-length-2
+same-length-2 : tie.Need-shape_of-out-in-Refused
 same-length-2 c = search rules
 
-returns-2 : tie.Need-returns-2
+returns-2 : tie.Need-returns-in-Refused
 returns-2 c =
-    let written = c.before.before.before.before in
-    let start = written.before.before.before in
-    absurd (obeyed_not_refused start.args.table start.args.out.now start.requires.0 start.requires.1 written.write.ensures _ c.enum_told.given.1)
+    absurd (obeyed_not_refused c.args.table c.args.out.now c.requires.0 c.requires.1 c.write-written.ensures _ c.in-Refused.is)
 
-pub put-table-spec : {M : Type 1} → statement M
-put-table-spec =
+pub put_table_spec : {M : Type 1} → statement M
+put_table_spec =
     tie.close
     (tie.spec
     write-requires

@@ -11,62 +11,53 @@ use borrow.Author.Rules.{rules}
 use Rattle.rewriting.proofs.rewrite.Statement.{statement}
 use Rattle.rewriting.proofs.rewrite.Tie as tie
 
-read-requires : tie.Need-read-requires
+read-requires : tie.Need-read-read-requires
 read-requires c κs = search rules
 
-enum_told : tie.Need-enum-told
+enum_told : tie.Need-enum_told-1
 enum_told c = search rules
 
 -- the text is accepted
-accepted : (c : tie.After-enum-told) → (reading_of c.before.before.before.before.before.before.args.text.now).answer ≡ Accepted
-accepted c = ap (λ (r : Reading). r.answer) (sym c.before.before.before.read.ensures) ∙ c.enum_told.given.1
+accepted : (c : tie.In-Accepted) → (reading_of c.args.text.now).answer ≡ Accepted
+accepted c = ap (λ (r : Reading). r.answer) (sym c.read-read.ensures) ∙ c.in-Accepted.is
 
-put-table-requires : tie.Need-put-table-requires
+put-table-requires : tie.Need-put_table-requires
 put-table-requires c κs =
-    let told = c.before in
-    let read = told.before.before.before in
-    let start = read.before.before.before in
-    (rw read.read.ensures (accepted_obeyed start.args.text.now (accepted told)), start.requires)
+    (rw c.read-read.ensures (accepted_obeyed c.args.text.now (accepted c.before)), c.requires)
 
-enum-known-answer : tie.Need-enum-known-answer
+enum-known-answer : tie.Need-enum_known-answer
 enum-known-answer c = search rules
 
-put-refused-requires : tie.Need-put-refused-requires
+put-refused-requires : tie.Need-put_refused-requires
 put-refused-requires c κs = search rules
 
-same_length : tie.Need-same-length
+same_length : tie.Need-shape_of-out-in-Accepted
 same_length c = search rules
 
-returns : tie.Need-returns
+returns : tie.Need-returns-in-Accepted
 returns c =
-    let put = c.before.before in
-    let told = put.before.before in
-    let read = told.before.before.before in
-    let text = read.before.before.before.args.text.now in
-    let is = rewritten_text text (accepted told) in
-    let p = rw read.read.ensures at put.put-table.ensures in
-    (rw is p.0, rw is p.1, rw p.0 (accepted_most text (accepted told)))
+    let text = c.args.text.now in
+    let is = rewritten_text text (accepted c.before.before.before.before) in
+    let p = rw c.read-read.ensures at c.put_table.ensures in
+    (rw is p.0, rw is p.1, rw p.0 (accepted_most text (accepted c.before.before.before.before)))
 
-same-length-2 : tie.Need-same-length-2
+same-length-2 : tie.Need-shape_of-out-in-Refused
 same-length-2 c = search rules
 
-returns-2 : tie.Need-returns-2
+returns-2 : tie.Need-returns-in-Refused
 returns-2 c =
-    let put = c.before.before in
-    let read = put.before.before.before.before.before.before in
-    let start = read.before.before.before in
-    let text = start.args.text.now in
-    let told = ap (λ (r : Reading). r.answer) (sym read.read.ensures) ∙ put.before.before.before.answer.given.1 in
+    let text = c.args.text.now in
+    let told = ap (λ (r : Reading). r.answer) (sym c.read-read.ensures) ∙ c.in-Refused.is in
     let is = rewritten_refused text _ told in
-    let p = put.Put-refused.ensures in
-    let room = start.requires in (
+    let p = c.put_refused.ensures in
+    let room = c.requires in (
       rw is (omega (arith, p.0.count)),
-      rw is (put_front _ start.args.out.now (omega (arith, p.0.count, p.1, room)) p.0),
+      rw is (put_front _ c.args.out.now (omega (arith, p.0.count, p.1, room)) p.0),
       omega (arith, p.1),
     )
 
-pub rewrite-spec : {M : Type 1} → statement M
-rewrite-spec =
+pub rewrite_spec : {M : Type 1} → statement M
+rewrite_spec =
     tie.close
     (tie.spec
     read-requires

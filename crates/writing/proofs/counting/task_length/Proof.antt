@@ -51,11 +51,13 @@ add-result-5 c = search rules
 
 returns : tie.Need-returns-in-Once
 unfolding line_length
-returns c =rw c.in-Once.is (search rules)
+returns c =
+    rw c.in-Once.is (search rules)
 
 returns-2 : tie.Need-returns-in-Every
 unfolding line_length
-returns-2 c =rw c.in-Every.is (search rules)
+returns-2 c =
+    rw c.in-Every.is (search rules)
 
 pub task_length_spec : {M : Type 1} → statement M
 task_length_spec =
@@ -78,4 +80,3 @@ task_length_spec =
     add-result-5
     returns
     returns-2)
-

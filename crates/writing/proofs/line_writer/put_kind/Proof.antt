@@ -19,13 +19,15 @@ same_length : tie.Need-shape_of-out-in-Deferrable
 same_length c = search rules
 
 returns : tie.Need-returns-in-Deferrable
-returns c =rw c.in-Deferrable.is (c.put_word.ensures, search rules)
+returns c =
+    rw c.in-Deferrable.is (c.put_word.ensures, search rules)
 
 same-length-2 : tie.Need-shape_of-out-in-Periodic
 same-length-2 c = search rules
 
 returns-2 : tie.Need-returns-in-Periodic
-returns-2 c =rw c.in-Periodic.is (c.put_word-in-Periodic.ensures, search rules)
+returns-2 c =
+    rw c.in-Periodic.is (c.put_word-in-Periodic.ensures, search rules)
 
 pub put_kind_spec : {M : Type 1} → statement M
 put_kind_spec =
@@ -39,4 +41,3 @@ put_kind_spec =
     returns
     same-length-2
     returns-2)
-

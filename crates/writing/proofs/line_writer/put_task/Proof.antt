@@ -21,14 +21,16 @@ same_length c = search rules
 
 returns : tie.Need-returns-in-Once
 unfolding task_line
-returns c =rw c.in-Once.is c.put_once.ensures
+returns c =
+    rw c.in-Once.is c.put_once.ensures
 
 same-length-2 : tie.Need-shape_of-out-in-Every
 same-length-2 c = search rules
 
 returns-2 : tie.Need-returns-in-Every
 unfolding task_line
-returns-2 c =rw c.in-Every.is c.put_every.ensures
+returns-2 c =
+    rw c.in-Every.is c.put_every.ensures
 
 pub put_task_spec : {M : Type 1} → statement M
 put_task_spec =
@@ -42,4 +44,3 @@ put_task_spec =
     returns
     same-length-2
     returns-2)
-
