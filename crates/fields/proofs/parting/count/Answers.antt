@@ -8,8 +8,8 @@ pub loop-i-preserved : goal.loop-i-preserved
 loop-i-preserved c =
     let l = c.loop-i in
     elim c.if-line-i-eq9.branch [
-      then-line-i-eq9 w ↦ (omega arith, omega (arith, l.invariant.1, pieces_here 9 c.args.line.now l.i c.loop-i-test.true w.if-line-i-eq9.true))
-    | else-line-i-eq9 w ↦ (omega arith, omega (arith, l.invariant.1, pieces_next 9 c.args.line.now l.i c.loop-i-test.true w.if-line-i-eq9.false))
+      | then-line-i-eq9 w ↦ (omega arith, omega (arith, l.invariant.1, pieces_here 9 c.args.line.now l.i c.loop-i-test.true w.if-line-i-eq9.true))
+      | else-line-i-eq9 w ↦ (omega arith, omega (arith, l.invariant.1, pieces_next 9 c.args.line.now l.i c.loop-i-test.true w.if-line-i-eq9.false))
     ]
 
 pub returns : goal.returns

@@ -5,29 +5,29 @@ use borrow.Author.Rules.{rules}
 use Rattle.text_reports.proofs.reports.put_rewritten.Statement.{statement}
 use Rattle.text_reports.proofs.reports.put_rewritten.Tie as tie
 
-slice-aggregate-rewrite : tie.Need-slice-aggregate-rewrite
+slice-aggregate-rewrite : tie.Need-slice_bounds-rewrite-end
 slice-aggregate-rewrite c = search rules
 
-rewrite-requires : tie.Need-rewrite-requires
+rewrite-requires : tie.Need-rewrite-count-requires
 rewrite-requires c κs = search rules
 
-array-share-prefix-bytes : tie.Need-array-share-prefix-bytes
+array-share-prefix-bytes : tie.Need-slice_bounds-bytes-end
 array-share-prefix-bytes c = search rules
 
-slice-aggregate-put-word : tie.Need-slice-aggregate-put-word
+slice-aggregate-put-word : tie.Need-slice_bounds-put_word-end
 slice-aggregate-put-word c = sym (length-take-le _ _ (array-share-prefix-bytes c.before))
 
-put-word-requires : tie.Need-put-word-requires
+put-word-requires : tie.Need-put_word-m-requires
 put-word-requires c κs = search rules
 
-put-byte-requires : tie.Need-put-byte-requires
+put-byte-requires : tie.Need-put_byte-requires
 put-byte-requires c κs = search rules
 
 returns : tie.Need-returns
 returns c = search rules
 
-pub put-rewritten-spec : {M : Type 1} → statement M
-put-rewritten-spec =
+pub put_rewritten_spec : {M : Type 1} → statement M
+put_rewritten_spec =
     tie.close
     (tie.spec
     slice-aggregate-rewrite

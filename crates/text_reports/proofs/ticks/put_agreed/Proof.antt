@@ -4,59 +4,53 @@ use borrow.Author.Rules.{rules}
 use Rattle.text_reports.proofs.ticks.put_agreed.Statement.{statement}
 use Rattle.text_reports.proofs.ticks.put_agreed.Tie as tie
 
-abbrev invariant-loop : tie.invariant-loop
-invariant-loop out₀ n text table state₀ m₀ tick₀ t10 t11 out state m tick = Unit {0}
+abbrev invariant-loop : tie.invariant-loop-tick
+invariant-loop out₀ n text table state₀ m₀ tick₀ out state m tick = Unit {0}
 
-abbrev decreases-loop : tie.decreases-loop
-decreases-loop out₀ n text table state₀ m₀ tick₀ t10 t11 out state m tick = table.span - tick
+abbrev decreases-loop : tie.decreases-loop-tick
+decreases-loop out₀ n text table state₀ m₀ tick₀ out state m tick = table.span - tick
 
-start-requires : tie.Need-start-requires invariant-loop decreases-loop
+start-requires : tie.Need-start-state-requires invariant-loop decreases-loop
 start-requires c κs = search rules
 
-loop-holds : tie.Need-loop-init invariant-loop decreases-loop
+loop-holds : tie.Need-loop-tick-init invariant-loop decreases-loop
 loop-holds c = search rules
 
-step-requires : tie.Need-step-requires invariant-loop decreases-loop
+step-requires : tie.Need-step-stepped-requires invariant-loop decreases-loop
 step-requires c κs = search rules
 
-ask-requires : tie.Need-ask-requires invariant-loop decreases-loop
+ask-requires : tie.Need-ask-who-requires invariant-loop decreases-loop
 ask-requires c κs = search rules
 
-put-who-requires : tie.Need-put-who-requires invariant-loop decreases-loop
+put-who-requires : tie.Need-put_who-m-requires invariant-loop decreases-loop
 put-who-requires c κs = search rules
 
 agree-requires : tie.Need-agree-requires invariant-loop decreases-loop
 agree-requires c κs = search rules
 
-slice-aggregate-put-word : tie.Need-slice-aggregate-put-word invariant-loop decreases-loop
-slice-aggregate-put-word c = search rules
-
-put-word-requires : tie.Need-put-word-requires invariant-loop decreases-loop
+put-word-requires : tie.Need-put_word-requires invariant-loop decreases-loop
 put-word-requires c κs = search rules
 
-returns : tie.Need-returns invariant-loop decreases-loop
+returns : tie.Need-returns-then-not-agree invariant-loop decreases-loop
 returns c = search rules
 
-add-tick : tie.Need-overflow-add-tick invariant-loop decreases-loop
+add-tick : tie.Need-overflow_add-tick invariant-loop decreases-loop
 add-tick c = search rules
 
-loop-less : tie.Need-loop-smaller invariant-loop decreases-loop
+loop-less : tie.Need-loop-tick-smaller invariant-loop decreases-loop
 loop-less c = search rules
 
-loop-again : tie.Need-loop-preserved invariant-loop decreases-loop
+loop-again : tie.Need-loop-tick-preserved invariant-loop decreases-loop
 loop-again c = search rules
 
-slice-aggregate-put-word-2 : tie.Need-slice-aggregate-put-word-2 invariant-loop decreases-loop
-slice-aggregate-put-word-2 c = search rules
-
-put-word-requires-2 : tie.Need-put-word-requires-2 invariant-loop decreases-loop
+put-word-requires-2 : tie.Need-put_word-requires-2 invariant-loop decreases-loop
 put-word-requires-2 c κs = search rules
 
-returns-2 : tie.Need-returns-2 invariant-loop decreases-loop
+returns-2 : tie.Need-returns invariant-loop decreases-loop
 returns-2 c = search rules
 
-pub put-agreed-spec : {M : Type 1} → statement M
-put-agreed-spec =
+pub put_agreed_spec : {M : Type 1} → statement M
+put_agreed_spec =
     tie.close
     (tie.spec
     invariant-loop
@@ -67,12 +61,10 @@ put-agreed-spec =
     ask-requires
     put-who-requires
     agree-requires
-    slice-aggregate-put-word
     put-word-requires
     returns
     add-tick
     loop-less
     loop-again
-    slice-aggregate-put-word-2
     put-word-requires-2
     returns-2)
