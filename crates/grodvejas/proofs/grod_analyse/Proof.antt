@@ -8,45 +8,45 @@ use Rattle.grodvejas.proofs.grod_analyse.Statement.{statement}
 use Rattle.grodvejas.proofs.grod_analyse.Tie as tie
 
 -- the call, from in front of the handing out
-abbrev handing : tie.After-hand-analysis-arg8 → tie.After-analyse
+abbrev handing : tie.After-hand_analysis-arg-8-1 → tie.After-analyse-analysis
 handing c = c.before.before.before.before.before.before.before.before.before.before.before.before.before.before.before.before.before.before.before.before
 
 -- and from behind it
-abbrev asked : tie.After-hand-analysis → tie.After-analyse
+abbrev asked : tie.After-hand_analysis → tie.After-analyse-analysis
 asked c = handing c.before
 
-analyse-requires : tie.Need-analyse-requires
+analyse-requires : tie.Need-analyse-analysis-requires
 analyse-requires c κs = search rules
 
-hand-analysis-requires : tie.Need-hand-analysis-requires
-hand-analysis-requires c κs = answers_fit (handing c).analyse.ensures
+hand-analysis-requires : tie.Need-hand_analysis-requires
+hand-analysis-requires c κs = answers_fit (handing c).analyse-analysis.ensures
 
-same_length : tie.Need-same-length
-same_length c = (asked c).analyse.auto.1.0
+same_length : tie.Need-shape_of-free
+same_length c = (asked c).analyse-analysis.auto.free
 
-same-length-2 : tie.Need-same-length-2
-same-length-2 c = (asked c).analyse.auto.1.1.0
+same-length-2 : tie.Need-shape_of-sum
+same-length-2 c = (asked c).analyse-analysis.auto.sum
 
-same-length-3 : tie.Need-same-length-3
-same-length-3 c = (asked c).analyse.auto.1.1.1.0
+same-length-3 : tie.Need-shape_of-part
+same-length-3 c = (asked c).analyse-analysis.auto.part
 
-same-length-4 : tie.Need-same-length-4
-same-length-4 c = (asked c).analyse.auto.1.1.1.1.0
+same-length-4 : tie.Need-shape_of-held
+same-length-4 c = (asked c).analyse-analysis.auto.held
 
-same-length-5 : tie.Need-same-length-5
-same-length-5 c = (asked c).analyse.auto.1.1.1.1.1.0
+same-length-5 : tie.Need-shape_of-running
+same-length-5 c = (asked c).analyse-analysis.auto.running
 
-same-length-6 : tie.Need-same-length-6
-same-length-6 c = (asked c).analyse.auto.1.1.1.1.1.1.0
+same-length-6 : tie.Need-shape_of-spare
+same-length-6 c = (asked c).analyse-analysis.auto.spare
 
 returns : tie.Need-returns
 returns c =
-    let w = (asked c).analyse.ensures in
-    let h = c.hand-analysis.ensures in
+    let w = (asked c).analyse-analysis.ensures in
+    let h = c.hand_analysis.ensures in
     record { answers = rw w.answer at h; buffers = by_number (sym (same_number h.refusal_is)) w.buffers }
 
-pub grod-analyse-spec : {M : Type 1} → statement M
-grod-analyse-spec =
+pub grod_analyse_spec : {M : Type 1} → statement M
+grod_analyse_spec =
     tie.close
     (tie.spec
     analyse-requires
