@@ -88,14 +88,13 @@ answer_tables() { # TABLE..
     read_tables "$@"
     cd "$here"
     . scripts/common.sh
-    prove check "$self"
-    find_starts
+    find_programs "$self"
     local status=0 i=0 name said word number line place
     for name in "$@"; do
         i=$((i + 1))
         [ "$name" != - ] || name='standard input'
         [ $# -eq 1 ] || echo "$self: $name" >&2
-        said=$("${starts[@]}" "target/bin/$self" <"$room/$i")
+        said=$("target/bin/$self" <"$room/$i")
         [ -n "$said" ] || { echo "$self: the program wrote nothing" >&2; exit 2; }
         printf '%s\n' "$said"
         IFS=$'\t' read -r word number line place <<<"$said"

@@ -31,8 +31,8 @@ enum {
     GROD_SERVERS = 16,    /* the most servers that a table has */
     GROD_TASKS = 64,      /* the most tasks */
     GROD_ROOM = 16000,    /* the least that a work buffer holds */
-    GROD_REPORT = 4096,   /* room for any report: it has at most 2,475 bytes, by proof (`report-short`) */
-    GROD_TEXT_MOST = 2603 /* room for any text that grod_write writes: it never has more bytes, by proof (`text-most`) */
+    GROD_REPORT = 4096,   /* room for any report: it has at most 2,475 bytes, by proof (`report_short`) */
+    GROD_TEXT_MOST = 2603 /* room for any text that grod_write writes: it never has more bytes, by proof (`text_most`) */
 };
 
 /* in `short_period`: no period is short */

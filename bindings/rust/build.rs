@@ -1,5 +1,5 @@
 //! Links the archive `libgrodvejas.a` where the program is for x86-64 Linux and the archive is there: in the folder that GRODVEJAS_LIB names, or
-//! else in ../../target/staticlib, where `rt staticlib grodvejas` writes it. Without it the crate compiles all the same (`grodvejas::AVAILABLE`).
+//! else in ../../target/staticlib, where `scripts/archive` writes it. Without it the crate compiles all the same (`grodvejas::AVAILABLE`).
 use std::env;
 use std::path::PathBuf;
 
@@ -23,7 +23,7 @@ fn main() {
     if !(target_is("ARCH", "x86_64") && target_is("OS", "linux")) {
         println!("cargo:warning=the archive is for x86-64 Linux: every call answers that it is unavailable");
     } else if !archive.is_file() {
-        println!("cargo:warning=there is no libgrodvejas.a (GRODVEJAS_LIB, or `rt staticlib grodvejas`): every call answers that it is unavailable");
+        println!("cargo:warning=there is no libgrodvejas.a (GRODVEJAS_LIB, or `scripts/archive`): every call answers that it is unavailable");
     } else {
         println!("cargo:rustc-link-search=native={}", folder.display());
         println!("cargo:rustc-link-lib=static=grodvejas");

@@ -36,9 +36,9 @@ pub const SERVERS: usize = 16;
 pub const TASKS: usize = 64;
 /// The least that a work buffer holds.
 pub const ROOM: usize = 16_000;
-/// Room for any report: it has at most 2,475 bytes, by proof (`report-short`).
+/// Room for any report: it has at most 2,475 bytes, by proof (`report_short`).
 pub const REPORT: usize = 4096;
-/// Room for any text that [`write_into`] writes: it never has more bytes, by proof (`text-most`).
+/// Room for any text that [`write_into`] writes: it never has more bytes, by proof (`text_most`).
 pub const TEXT_MOST: usize = 2603;
 
 /// Why a call is refused: the number of the ground; the line of the text, counted from 1, or 0 where no line is meant; and the place of the field in
