@@ -69,9 +69,9 @@ pub extern "C" fn grod_read(
     servers: &mut [u32; 48],
     tasks: &mut [u32; 384],
 ) -> u32
-    ensures { Reads text.now (record { span = span.entry.now; servers = servers_n.old; tasks = tasks_n.old })
+    ensures { Reads text.now (record { span = span.old; servers = servers_n.old; tasks = tasks_n.old })
         servers.old tasks.old (record { number = result; line = line.new; place = place.new })
-        (record { span = span.exit.now; servers = servers_n.new; tasks = tasks_n.new }) servers.new tasks.new }
+        (record { span = span.new; servers = servers_n.new; tasks = tasks_n.new }) servers.new tasks.new }
 {
     let read = reading::read(text);
     hand_reading(read, line, place, span, servers_n, tasks_n, servers, tasks)
@@ -109,9 +109,9 @@ pub extern "C" fn grod_step(
     holder: &mut u32,
     runner: &mut u32,
 ) -> u32
-    ensures { Steps text.now (record { tick = tick.entry.now; budgets = budgets.old; waiting = waiting.old })
+    ensures { Steps text.now (record { tick = tick.old; budgets = budgets.old; waiting = waiting.old })
         (record { number = result; line = line.new; place = place.new })
-        (record { tick = tick.exit.now; budgets = budgets.new; waiting = waiting.new }) holder.new runner.new }
+        (record { tick = tick.new; budgets = budgets.new; waiting = waiting.new }) holder.new runner.new }
 {
     let read = reading::read(text);
     hand_step(read, tick, budgets, waiting, line, place, holder, runner)
@@ -132,8 +132,8 @@ pub extern "C" fn grod_step_table(
     runner: &mut u32,
 ) -> u32
     ensures { StepsTable (record { span = span; servers = servers_n; tasks = tasks_n }) servers.now tasks.now
-        (record { tick = tick.entry.now; budgets = budgets.old; waiting = waiting.old })
-        result (record { tick = tick.exit.now; budgets = budgets.new; waiting = waiting.new }) holder.new runner.new }
+        (record { tick = tick.old; budgets = budgets.old; waiting = waiting.old })
+        result (record { tick = tick.new; budgets = budgets.new; waiting = waiting.new }) holder.new runner.new }
 {
     let given = table_from(span, servers_n, tasks_n, servers, tasks);
     step_table(given, tick, budgets, waiting, holder, runner)
@@ -184,11 +184,11 @@ pub extern "C" fn grod_analyse(
     margin: &mut [i32; 64],
 ) -> u32
     ensures { Analyses text.now free.old sum.old part.old held.old running.old
-        spare.old (record { span = span.entry.now; servers = servers_n.old; tasks = tasks_n.old })
-        (record { servers = servers.entry.now; tasks = tasks.old; margin = margin.old })
+        spare.old (record { span = span.old; servers = servers_n.old; tasks = tasks_n.old })
+        (record { servers = servers.old; tasks = tasks.old; margin = margin.old })
         (record { number = result; line = line.new; place = place.new })
-        (record { span = span.exit.now; servers = servers_n.new; tasks = tasks_n.new })
-        (record { servers = servers.exit.now; tasks = tasks.new; margin = margin.new }) free.new
+        (record { span = span.new; servers = servers_n.new; tasks = tasks_n.new })
+        (record { servers = servers.new; tasks = tasks.new; margin = margin.new }) free.new
         sum.new part.new held.new running.new spare.new }
 {
     let analysis = scheduling::analyse(text, free, sum, part, held, running, spare);

@@ -41,11 +41,11 @@ pub fn hand_analysis(
     margin: &mut [i32; 64],
 ) -> u32
     requires { (analysis.servers_n ≤ 16) × (analysis.tasks_n ≤ 64) }
-    ensures { HandsAnalysis analysis (record { span = span.entry.now; servers = servers_n.old; tasks = tasks_n.old })
-        (record { servers = servers.entry.now; tasks = tasks.old; margin = margin.old })
+    ensures { HandsAnalysis analysis (record { span = span.old; servers = servers_n.old; tasks = tasks_n.old })
+        (record { servers = servers.old; tasks = tasks.old; margin = margin.old })
         (record { number = result; line = line.new; place = place.new })
-        (record { span = span.exit.now; servers = servers_n.new; tasks = tasks_n.new })
-        (record { servers = servers.exit.now; tasks = tasks.new; margin = margin.new }) }
+        (record { span = span.new; servers = servers_n.new; tasks = tasks_n.new })
+        (record { servers = servers.new; tasks = tasks.new; margin = margin.new }) }
 {
     let refusal = analysis.refusal;
     let number = hand_refusal(refusal, line, place);

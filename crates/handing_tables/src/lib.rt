@@ -42,9 +42,9 @@ pub fn hand_reading(
     tasks: &mut [u32; 384],
 ) -> u32
     requires { (read.table.servers_n ≤ 16) × (read.table.tasks_n ≤ 64) }
-    ensures { HandsReading read (record { span = span.entry.now; servers = servers_n.old; tasks = tasks_n.old })
+    ensures { HandsReading read (record { span = span.old; servers = servers_n.old; tasks = tasks_n.old })
         servers.old tasks.old (record { number = result; line = line.new; place = place.new })
-        (record { span = span.exit.now; servers = servers_n.new; tasks = tasks_n.new }) servers.new tasks.new }
+        (record { span = span.new; servers = servers_n.new; tasks = tasks_n.new }) servers.new tasks.new }
 {
     let answer = read.answer;
     let refusal = refusal_in(answer);
@@ -71,8 +71,8 @@ pub fn step_table(
     holder: &mut u32,
     runner: &mut u32,
 ) -> u32
-    ensures { HandsStep (step_of table (record { tick = tick.entry.now; budgets = budgets.old; waiting = waiting.old }))
-        (unplaced result) (record { tick = tick.exit.now; budgets = budgets.new; waiting = waiting.new })
+    ensures { HandsStep (step_of table (record { tick = tick.old; budgets = budgets.old; waiting = waiting.old }))
+        (unplaced result) (record { tick = tick.new; budgets = budgets.new; waiting = waiting.new })
         holder.new runner.new }
 {
     let old_budgets = *budgets;
@@ -125,9 +125,9 @@ pub fn hand_step(
     holder: &mut u32,
     runner: &mut u32,
 ) -> u32
-    ensures { HandsStep (step_for read (record { tick = tick.entry.now; budgets = budgets.old; waiting = waiting.old }))
+    ensures { HandsStep (step_for read (record { tick = tick.old; budgets = budgets.old; waiting = waiting.old }))
         (record { number = result; line = line.new; place = place.new })
-        (record { tick = tick.exit.now; budgets = budgets.new; waiting = waiting.new }) holder.new runner.new }
+        (record { tick = tick.new; budgets = budgets.new; waiting = waiting.new }) holder.new runner.new }
 {
     let answer = read.answer;
     let table = read.table;
