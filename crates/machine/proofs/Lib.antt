@@ -6,3 +6,4 @@ pub mod Stepping
 pub mod WholeRun
 pub mod Examples
 pub mod Grounds
+pub mod Limits

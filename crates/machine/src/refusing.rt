@@ -25,6 +25,7 @@ fn budgets_within(state: State, table: Table) -> bool
 }
 
 // Whether no task's waiting work is above the limit.
+#[tactic(auto, using(crate::proofs::Limits::work_over))]
 fn work_within(state: State, table: Table) -> bool
     requires { table.tasks_n ≤ 64 }
     ensures { result ≡ none_of (over_work state) table.tasks_n }

@@ -54,6 +54,7 @@ impl Both {
         }
     }
 
+    #[tactic(auto, using(crate::proofs::Sums::open_over))]
     fn next(self, a: &[u32], b: &[u32]) -> Piece
         requires { InBoth a.now b.now self }
         ensures { SumGives a.now b.now self result }
