@@ -1,5 +1,5 @@
 -- The law of a line's grounds: a line is refused on its stated ground and on no other. Assumes nothing.
-use Prim.Native.Nat.{ℕ, suc, ◌≤◌, ◌<◌}
+use Prim.Native.Nat.{ℕ, ◌≤◌, ◌<◌}
 use mathlib.Core.Path.{◌≡◌, refl, sym, ap, subst, ◌∙◌}
 use mathlib.Core.List.{List}
 use mathlib.Core.Bool.{Bool, true, false, true≢false}
@@ -13,7 +13,7 @@ use Rattle.refusals.specs.declared.Ground.TheVariants as what
 use Rattle.fields.specs.declared.Word.{Word}
 use Rattle.lines.specs.declared.Line.{Line}
 use Rattle.lines.specs.declared.Line.TheVariants.{SpanIs, ServerIs, TaskIs, Wrong}
-use Rattle.grounds.specs.Grounds.{count_of, Field, is_number, is_dash, is_kind, is_bad, is_good, field_there, range_there, Counted, InLine, GoodBefore, RangesBefore, AllGood, GroundOf, misplaced, too_many, field_count, bad_field, out_of_range, Right, LineGround, NoGround}
+use Rattle.grounds.specs.Grounds.{Field, is_number, is_dash, is_kind, is_bad, is_good, field_there, range_there, InLine, AllGood, GroundOf, misplaced, too_many, field_count, bad_field, out_of_range, Right, LineGround, NoGround}
 use Rattle.grounds.proofs.Judged.{Judged, line_judged}
 
 -- a test that is passed and is not

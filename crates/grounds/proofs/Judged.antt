@@ -26,7 +26,7 @@ use Rattle.lines.specs.declared.KindField.{KindField}
 use Rattle.lines.specs.declared.KindField.TheVariants as kind
 use Rattle.lines.specs.declared.Line.{Line}
 use Rattle.lines.specs.declared.Line.TheVariants.{SpanIs, ServerIs, TaskIs, Wrong}
-use Rattle.grounds.specs.Grounds.{May, a_number, a_number_or_dash, a_kind, Range, ticks, ticks_to_period, from_zero, a_server, unranged, Entry, entry, entry_at, count_of, Field, is_number, is_dash, is_kind, is_bad, of_number, of_kind, read_as, is_good, value_of, within, in_range, in_place, has_room, field_there, range_there, Counted, InLine, GoodBefore, RangesBefore, AllGood, GroundOf, misplaced, too_many, field_count, bad_field, out_of_range, Right}
+use Rattle.grounds.specs.Grounds.{a_number, a_number_or_dash, a_kind, Range, ticks, ticks_to_period, from_zero, a_server, unranged, Entry, entry, entry_at, count_of, Field, is_number, is_dash, is_kind, of_number, of_kind, read_as, is_good, value_of, within, in_range, in_place, has_room, field_there, range_there, Counted, InLine, GoodBefore, RangesBefore, AllGood, GroundOf, misplaced, too_many, field_count, bad_field, out_of_range, Right}
 
 -- one place more
 next_place : (P : ℕ → Type 0) (k : ℕ) → ((p : ℕ) → 2 ≤ p → p < k → P p) → P k → (p : ℕ) → 2 ≤ p → p < suc k → P p

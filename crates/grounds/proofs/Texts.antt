@@ -18,7 +18,7 @@ use Rattle.lines.specs.declared.Line.TheVariants.{SpanIs, ServerIs, TaskIs, Wron
 use Rattle.refusals.specs.Refusals.{number_of, refused_at}
 use Rattle.refusals.specs.declared.Ground.{Ground}
 use Rattle.refusals.specs.declared.Refusal.{Refusal}
-use Rattle.reading.specs.Reading.{no_table, refusal, accepted, ended_of, read_lines, ends_with_feed, reading_of}
+use Rattle.reading.specs.Reading.{no_table, refusal, ended_of, read_lines, ends_with_feed, reading_of}
 use Rattle.reading.specs.Pieces.{with_line, goes_on}
 use Rattle.reading.specs.declared.Answer.{Answer}
 use Rattle.reading.specs.declared.Answer.TheVariants.{Accepted, Refused}

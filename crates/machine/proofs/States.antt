@@ -1,6 +1,6 @@
 -- A state is its tick, its budgets and its waiting work. Assumes nothing.
 use Prim.Native.Nat.{ℕ}
-use mathlib.Core.Path.{◌≡◌, refl, ap, ◌∙◌}
+use mathlib.Core.Path.{◌≡◌, ap, ◌∙◌}
 use mathlib.Core.List.{List}
 use Rattle.machine.specs.declared.State.{State}
 

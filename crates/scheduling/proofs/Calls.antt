@@ -1,6 +1,6 @@
 -- The six work buffers of a call. Assumes nothing.
 use Prim.Native.Nat.{ℕ, ◌≤◌, ◌<◌}
-use mathlib.Core.Path.{◌≡◌, refl, ap, subst, ◌∙◌}
+use mathlib.Core.Path.{◌≡◌, ap, subst, ◌∙◌}
 use mathlib.Core.List.{List}
 use mathlib.Core.Bool.{true, ◌&&◌}
 use native.Mathlib.Omega.{arith}

@@ -1,5 +1,5 @@
 -- What the walk over all periods keeps: cited by the contracts of the functions that make it.
-use Rattle.std.specs.Prelude.{ℕ, ◌≤◌, ◌<◌, ◌≡◌, List, [], ◌∷◌, ◌++◌}
+use Rattle.std.specs.Prelude.{ℕ, ◌≤◌, ◌<◌, List, [], ◌∷◌, ◌++◌}
 use Rattle.std.specs.Int.{◌∣◌}
 use Rattle.table.specs.declared.Span.{Span}
 use Rattle.table.specs.declared.Span.TheVariants.{Ticks, Over}

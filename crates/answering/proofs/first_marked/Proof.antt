@@ -1,6 +1,6 @@
 -- `answering::first_marked` meets its contract: a walk along the places.
 use Prim.Native.Nat.{◌-◌}
-use mathlib.Core.Path.{◌≡◌, sym}
+use mathlib.Core.Path.{sym}
 use mathlib.Core.Bool.{false}
 use borrow.Author.Rules.{rules}
 use lib.ListN.{get_or}

@@ -1,7 +1,6 @@
 -- `curves::add` meets its contract: each outcome from the tests that led to it.
 use mathlib.Core.Path.{◌≡◌, refl, sym, ◌∙◌}
 use mathlib.Core.Bool.{true}
-use borrow.Author.Tests.{not-true, not-false}
 use lib.ListN.{length}
 use Rattle.windows.specs.Windows.{is_plain, add_up}
 use Rattle.walks.specs.Rooms.{fits_in}

@@ -4,7 +4,7 @@ use Prim.Native.Nat.{◌<◌, ◌-◌}
 use mathlib.Core.Path.{◌≡◌, refl, sym, ap, ◌∙◌}
 use mathlib.Core.Bool.{true}
 use native.Mathlib.Omega.{arith}
-use borrow.Author.Tests.{lt-leb, le-leb, eq-eqb, ne_eqb, not-true, not-false}
+use borrow.Author.Tests.{lt-leb, le-leb, eq-eqb, ne_eqb}
 use lib.ListN.{length, drop, drop_of_length-le}
 use Rattle.windows.specs.Windows.{is_plain}
 use Rattle.windows.specs.Walks.{walk}

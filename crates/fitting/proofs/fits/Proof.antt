@@ -1,7 +1,6 @@
 -- `fitting::fits` meets its contract. The loop's invariant: of each room, what is free and the pieces before the walk make up the
 -- room lent and the whole result.
-use Prim.Native.Nat.{◌-◌}
-use mathlib.Core.Path.{◌≡◌, refl, sym}
+use mathlib.Core.Path.{sym}
 use native.Mathlib.Omega.{arith}
 use Rattle.windows.specs.Windows.{fit, leaving}
 use Rattle.windows.specs.Walks.{served_first, rest_first}

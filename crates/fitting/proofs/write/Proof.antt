@@ -1,7 +1,6 @@
 -- `fitting::write` meets its contract. The loop's invariant: of each result, what is written and the pieces before the walk are
 -- together the whole.
-use Prim.Native.Nat.{◌-◌}
-use mathlib.Core.Path.{◌≡◌, refl}
+use mathlib.Core.Path.{refl}
 use native.Mathlib.Omega.{arith}
 use Rattle.windows.specs.Windows.{fit, leaving}
 use Rattle.windows.specs.Walks.{served_first, rest_first}

@@ -1,5 +1,4 @@
 -- `holding::period_end` meets its contract.
-use mathlib.Core.Path.{◌≡◌, refl}
 use native.Mathlib.Nat.{mod-le}
 use native.Mathlib.Omega.{arith}
 use borrow.Author.Rules.{rules}

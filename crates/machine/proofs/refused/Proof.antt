@@ -1,5 +1,4 @@
 -- `machine::refused` meets its contract.
-use mathlib.Core.Path.{◌≡◌, refl}
 use borrow.Author.Rules.{rules}
 use Rattle.machine.proofs.refused.Statement.{statement}
 use Rattle.machine.proofs.refused.Tie as tie

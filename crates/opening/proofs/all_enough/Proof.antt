@@ -1,7 +1,6 @@
 -- `opening::all_enough` meets its contract.
 use mathlib.Core.Path.{sym, ◌∙◌}
 use borrow.Author.Rules.{rules}
-use borrow.Author.Tests.{not-true, not-false}
 use Rattle.opening.proofs.all_enough.Statement.{statement}
 use Rattle.opening.proofs.all_enough.Tie as tie
 

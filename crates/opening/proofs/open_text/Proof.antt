@@ -1,5 +1,4 @@
 -- `opening::open_text` meets its contract.
-use mathlib.Core.Path.{◌≡◌, refl}
 use borrow.Author.Rules.{rules}
 use Rattle.opening.proofs.open_text.Statement.{statement}
 use Rattle.opening.proofs.open_text.Tie as tie

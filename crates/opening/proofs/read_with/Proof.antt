@@ -1,7 +1,5 @@
 -- `opening::read_with` meets its contract.
-use mathlib.Core.Path.{◌≡◌}
 use borrow.Author.Rules.{rules}
-use borrow.Author.Tests.{not-true, not-false}
 use Rattle.opening.proofs.read_with.Statement.{statement}
 use Rattle.opening.proofs.read_with.Tie as tie
 

@@ -1,5 +1,4 @@
 -- `opening::refusal_at` meets its contract.
-use mathlib.Core.Path.{◌≡◌}
 use borrow.Author.Rules.{rules}
 use borrow.Author.Tests.{le-leb, lt-leb}
 use Rattle.opening.proofs.refusal_at.Statement.{statement}

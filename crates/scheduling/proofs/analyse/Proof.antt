@@ -1,5 +1,5 @@
 -- `scheduling::analyse` meets its contract: what was worked out is what it answers.
-use mathlib.Core.Path.{◌≡◌, refl, ◌∙◌}
+use mathlib.Core.Path.{refl, ◌∙◌}
 use borrow.Author.Rules.{rules}
 use Rattle.scheduling.proofs.Answered.{listed_is}
 use Rattle.scheduling.proofs.analyse.Statement.{statement}

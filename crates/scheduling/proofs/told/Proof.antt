@@ -1,5 +1,4 @@
 -- `scheduling::told` meets its contract.
-use mathlib.Core.Path.{◌≡◌, refl}
 use borrow.Author.Rules.{rules}
 use Rattle.scheduling.proofs.told.Statement.{statement}
 use Rattle.scheduling.proofs.told.Tie as tie

@@ -1,5 +1,5 @@
 -- `scheduling::who_at` meets its contract: what was worked out is what it answers.
-use mathlib.Core.Path.{◌≡◌, refl, ◌∙◌}
+use mathlib.Core.Path.{◌∙◌}
 use borrow.Author.Rules.{rules}
 use Rattle.scheduling.proofs.Answered.{told_is, works_few}
 use Rattle.scheduling.proofs.who_at.Statement.{statement}

@@ -1,5 +1,5 @@
 -- `scheduling::work_out` meets its contract: a refusal leaves everything as it was, and elsewhere all is noted and the buffers are cleared.
-use mathlib.Core.Path.{◌≡◌, refl, sym, ap, ◌∙◌}
+use mathlib.Core.Path.{sym, ap, ◌∙◌}
 use native.Mathlib.Omega.{arith}
 use borrow.Author.Rules.{rules}
 use lib.ListN.{length}

@@ -1,6 +1,6 @@
 -- `serving::hold_server` meets its contract: what the server would hold is written, fitted into its free curve, and what is left is
 -- copied back.
-use mathlib.Core.Path.{◌≡◌, refl, sym, ◌∙◌}
+use mathlib.Core.Path.{sym, ◌∙◌}
 use native.Mathlib.Omega.{arith}
 use borrow.Author.Rules.{rules}
 use lib.Seq.{length-take-le}

@@ -1,5 +1,5 @@
 -- `serving::share` meets its contract: the demand is fitted into what is left to the task, and what is left then is copied back.
-use mathlib.Core.Path.{◌≡◌, sym}
+use mathlib.Core.Path.{sym}
 use native.Mathlib.Omega.{arith}
 use borrow.Author.Rules.{rules}
 use lib.Seq.{length-take-le}

@@ -1,9 +1,9 @@
 -- `table::obeys_rules` meets its contract, test by test.
 use Prim.Native.Nat.{ℕ, ◌≤◌}
-use mathlib.Core.Path.{◌≡◌, refl, sym, ◌∙◌}
+use mathlib.Core.Path.{◌≡◌, sym, ◌∙◌}
 use mathlib.Core.Bool.{true}
 use lib.Dec.{leb}
-use borrow.Author.Tests.{not-true, not-false, leb-true}
+use borrow.Author.Tests.{leb-true}
 use Rattle.basics.proofs.Tests.{and_right}
 use Rattle.table.specs.Rules.{between, in_ticks, all, server_obeys, servers_of}
 use borrow.Author.Rules.{rules}

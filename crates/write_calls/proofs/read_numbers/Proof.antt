@@ -1,5 +1,5 @@
 -- `write_calls::read_numbers` ends, and stays within its array. The loop's invariant: the array keeps its length.
-use Prim.Native.Nat.{◌-◌, ◌≤◌}
+use Prim.Native.Nat.{◌-◌}
 use mathlib.Core.Path.{◌≡◌}
 use lib.ListN.{length}
 use borrow.Author.Rules.{rules}

@@ -1,6 +1,5 @@
 -- `batch::inputs::cut_long` meets its contract. Assumes nothing.
 use native.Mathlib.Omega.{arith}
-use lib.Seq.{get_or-set_same}
 use borrow.Author.Rules.{rules}
 use Rattle.batch.proofs.inputs.cut_long.Statement.{statement}
 use Rattle.batch.proofs.inputs.cut_long.Tie as tie

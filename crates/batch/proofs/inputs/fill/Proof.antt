@@ -1,5 +1,4 @@
 -- `batch::inputs::fill` meets its contract: only what lies behind the bytes kept is lent. Assumes nothing.
-use native.Mathlib.Omega.{arith}
 use borrow.Author.Rules.{rules}
 use Rattle.batch.proofs.Parts.{first_kept}
 use Rattle.batch.proofs.inputs.fill.Statement.{statement}

@@ -1,5 +1,4 @@
 -- `demands::summing::add_below` meets its contract: the curves are added up, and the sum is cut off.
-use mathlib.Core.Path.{◌≡◌, refl}
 use borrow.Author.Rules.{rules}
 use Rattle.windows.specs.Windows.{add_up}
 use Rattle.buffers.specs.Parts.{Wrote}

@@ -1,6 +1,6 @@
 -- `demands::summing::add_task` meets its contract: the task's demand is written, added to the sum, and the new sum is copied back.
 use Prim.Native.Nat.{ℕ}
-use mathlib.Core.Path.{◌≡◌, sym, ap}
+use mathlib.Core.Path.{sym, ap}
 use mathlib.Core.List.{List}
 use native.Mathlib.Omega.{arith}
 use borrow.Author.Rules.{rules}

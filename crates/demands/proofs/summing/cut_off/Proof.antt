@@ -1,5 +1,4 @@
 -- `demands::summing::cut_off` meets its contract: only the last end can lie behind the span.
-use Prim.Native.Nat.{◌-◌}
 use native.Mathlib.Nat.{pos_of_ne-zero}
 use borrow.Author.Rules.{rules}
 use Rattle.demands.proofs.Cutoffs.{cut_none, cut_kept, cut_stored}

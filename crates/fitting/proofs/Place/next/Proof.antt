@@ -1,6 +1,4 @@
 -- `fitting::Place::next` meets its contract: a piece of the supply that is left, of the demand that is left, or a served window.
-use Prim.Native.Nat.{◌-◌}
-use mathlib.Core.Path.{◌≡◌, refl}
 use native.Mathlib.Omega.{arith}
 use Rattle.fitting.proofs.Stretches.{Ahead, ahead_at}
 use Rattle.fitting.proofs.Pieces.{supply_none, piece_done, piece_unwanted, piece_rest, piece_leaves, piece_side, piece_served, piece_used}

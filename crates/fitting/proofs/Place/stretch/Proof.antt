@@ -1,6 +1,5 @@
 -- `fitting::Place::stretch` meets its contract. The loop's invariant is `Stretching`: up to `till` all is served in one stretch.
 use Prim.Native.Nat.{◌-◌}
-use mathlib.Core.Path.{◌≡◌, refl}
 use native.Mathlib.Omega.{arith}
 use lib.ListN.{length}
 use Rattle.fitting.proofs.Stretches.{Ahead, ahead_at, Stretching, stretching_first, stretching_whole, stretching_end, stretching_gap, stretching_over}

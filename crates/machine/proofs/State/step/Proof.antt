@@ -1,8 +1,7 @@
 -- `machine::State::step` meets its contract: the parts of a tick in their order.
-use mathlib.Core.Path.{◌≡◌, refl, sym, ap, ◌∙◌}
+use mathlib.Core.Path.{◌≡◌, sym, ap, ◌∙◌}
 use mathlib.Core.Bool.{true}
 use borrow.Author.Rules.{rules}
-use borrow.Author.Tests.{not-true, not-false}
 use lib.ListN.{length}
 use Rattle.table.proofs.Entries.{length_mapped}
 use Rattle.machine.specs.declared.State.{State}

@@ -1,5 +1,4 @@
 -- `table::multiples::common_span` meets its contract: the periods of all servers and tasks, one after the other.
-use mathlib.Core.Path.{◌≡◌, refl}
 use Rattle.table.proofs.Spans.{joins_both, joined_all}
 use borrow.Author.Rules.{rules}
 use Rattle.table.proofs.multiples.common_span.Statement.{statement}

@@ -3,7 +3,7 @@ use mathlib.Core.Path.{◌≡◌, sym, ◌∙◌}
 use mathlib.Core.Bool.{true}
 use Prim.Native.Nat.{◌≤◌, ◌<◌}
 use borrow.Author.Rules.{rules}
-use borrow.Author.Tests.{not-true, not-false, leb-true}
+use borrow.Author.Tests.{leb-true}
 use Rattle.basics.proofs.Tests.{and_left, and_right}
 use lib.Dec.{leb}
 use Rattle.table.specs.Rules.{in_ticks}

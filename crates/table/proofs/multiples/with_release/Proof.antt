@@ -1,5 +1,4 @@
 -- `table::multiples::with_release` meets its contract, by the cases of a release.
-use mathlib.Core.Path.{◌≡◌, refl}
 use Rattle.table.proofs.Spans.{joins_none}
 use borrow.Author.Rules.{rules}
 use Rattle.table.proofs.multiples.with_release.Statement.{statement}

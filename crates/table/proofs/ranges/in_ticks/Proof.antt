@@ -1,5 +1,4 @@
 -- `table::ranges::in_ticks` meets its contract.
-use mathlib.Core.Path.{◌≡◌, refl}
 use borrow.Author.Tests.{le-leb, lt-leb}
 use Rattle.table.proofs.ranges.in_ticks.Statement.{statement}
 use Rattle.table.proofs.ranges.in_ticks.Tie as tie

@@ -1,5 +1,4 @@
 -- `table::ranges::within` meets its contract.
-use mathlib.Core.Path.{◌≡◌, refl}
 use borrow.Author.Tests.{le-leb, lt-leb}
 use Rattle.table.proofs.ranges.within.Statement.{statement}
 use Rattle.table.proofs.ranges.within.Tie as tie

@@ -1,5 +1,4 @@
 -- `table::rules::release_obeys` meets its contract, by the cases of a release.
-use mathlib.Core.Path.{◌≡◌, refl}
 use borrow.Author.Tests.{le-leb, lt-leb}
 use borrow.Author.Rules.{rules}
 use Rattle.table.proofs.rules.release_obeys.Statement.{statement}

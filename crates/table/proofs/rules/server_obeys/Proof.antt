@@ -1,6 +1,5 @@
 -- `table::rules::server_obeys` meets its contract.
-use mathlib.Core.Path.{◌≡◌, refl, sym, ◌∙◌}
-use borrow.Author.Tests.{not-true, not-false}
+use mathlib.Core.Path.{sym, ◌∙◌}
 use borrow.Author.Rules.{rules}
 use Rattle.table.proofs.rules.server_obeys.Statement.{statement}
 use Rattle.table.proofs.rules.server_obeys.Tie as tie

@@ -2,7 +2,6 @@
 use Prim.Native.Nat.{◌-◌, ◌≤◌}
 use mathlib.Core.Path.{◌≡◌, refl, sym, ◌∙◌}
 use native.Mathlib.Omega.{arith}
-use borrow.Author.Tests.{not-true, not-false}
 use lib.ListN.{length, drop}
 use Rattle.table.specs.Rules.{all, server_obeys, servers_of}
 use Rattle.table.proofs.Entries.{all_stops, all_goes, all_end, length_mapped}

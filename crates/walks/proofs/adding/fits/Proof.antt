@@ -1,6 +1,6 @@
 -- `walks::adding::fits` meets its contract. The loop's invariant: the room that is free and the windows before the walk make up the
 -- room lent and the whole sum, which ends in time if those do.
-use mathlib.Core.Path.{◌≡◌, refl, ap, ◌∙◌}
+use mathlib.Core.Path.{◌≡◌, ap, ◌∙◌}
 use mathlib.Core.Bool.{and-false}
 use native.Mathlib.Omega.{arith}
 use borrow.Author.Tests.{lt-leb}

@@ -1,7 +1,7 @@
 -- `walks::cutting::write` meets its contract. The loop's invariant: what is written and what the walk has before it are together the
 -- whole cut.
 use Prim.Native.Nat.{◌+◌, ◌<◌}
-use mathlib.Core.Path.{◌≡◌, refl, ap}
+use mathlib.Core.Path.{ap}
 use native.Mathlib.Omega.{arith}
 use lib.ListN.{length}
 use Rattle.windows.specs.Windows.{cut_at}

@@ -1,6 +1,5 @@
 -- `walks::cutting::Cut::next` meets its contract: a step gives the first piece of what the walk has before it, and the walk behind that piece.
 use Prim.Native.Nat.{◌+◌, ◌<◌, max}
-use mathlib.Core.Path.{◌≡◌, refl}
 use native.Mathlib.Omega.{arith}
 use native.Mathlib.Nat.{mod-lt}
 use lib.ListN.{get_or, drop_of_length-le}
