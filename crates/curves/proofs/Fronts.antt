@@ -39,3 +39,5 @@ pub front_window : (low : ℕ) (l : List ℕ) (i : ℕ) → 2 ≤ length l - i �
 unfolding plain_from
 front_window low l i h a b k =
     rw (drop_pair l i h, le-leb low (get_or l i 0) a, lt-ltb (get_or l i 0) (get_or l (i + 1) 0) b, le-leb (get_or l (i + 1) 0) 1000000 k)
+
+pub ruleset fronts = (front_none, front_odd, front_early, front_empty, front_late, front_window)

@@ -25,7 +25,7 @@ pub enum Fitted {
 }
 
 // Whether a curve is plain: an even length, each start below its end, each end below the next start, no end above LIMIT.
-#[tactic(auto, using(crate::proofs::Fronts::front_none, crate::proofs::Fronts::front_odd, crate::proofs::Fronts::front_early, crate::proofs::Fronts::front_empty, crate::proofs::Fronts::front_late, crate::proofs::Fronts::front_window))]
+#[tactic(auto, using(crate::proofs::Fronts::fronts))]
 pub fn plain(curve: &[u32]) -> bool
     ensures { result ≡ is_plain curve.now }
 {
