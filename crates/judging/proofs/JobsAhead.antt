@@ -6,7 +6,8 @@ use mathlib.Core.Bool.{true, false}
 use native.Mathlib.Omega.{arith}
 use native.Mathlib.Decide.{dec_lt}
 use lib.ListN.{length, get_or}
-use Rattle.windows.specs.Windows.{Instant, at, provide}
+use Rattle.std.specs.Prelude.{Option, Some}
+use Rattle.windows.specs.Windows.{provide}
 use Rattle.windows.proofs.Ticks.{plain_apart}
 use Rattle.windows.proofs.Providing.{provide_reached}
 use Rattle.table.specs.declared.Release.{Release}
@@ -66,7 +67,7 @@ module _ (release : Release) (span : ℕ) where
 -- ---- one job
 
 -- a curve below H gives an amount at H or before, if it does
-provide_below : (H : ℕ) (l : List ℕ) (n t : ℕ) → PlainBelow H l → 0 < n → provide l n ≡ at t → t ≤ H
+provide_below : (H : ℕ) (l : List ℕ) (n t : ℕ) → PlainBelow H l → 0 < n → provide l n ≡ Some t → t ≤ H
 provide_below H l n t b z e = go (dec_lt H t)
   where
     go : Dec (H < t) → t ≤ H
@@ -131,11 +132,11 @@ module _ {task : Task} {span : ℕ} {running : List ℕ} {worst : Worst} {passed
       one_judged =
           j.ahead
           ∙ ap (λ (rs : List ℕ). judged running task.work j.job rs (worst_so_far worst)) (from_next task.release span r next before (j.released before) next_release_lem)
-          ∙ ap (λ (x : Instant). after_job x r (worst_so_far worst) later) (ap (provide running) (sym j.ends) ∙ reached)
+          ∙ ap (λ (x : Option ℕ). after_job x r (worst_so_far worst) later) (ap (provide running) (sym j.ends) ∙ reached)
 
       -- it does not end
       pub judging_unfinished : length running ≤ 2 * p.windows → all_judged task span running ≡ unfinished r
-      judging_unfinished h = one_judged ∙ ap (λ (x : Instant). after_job x r (worst_so_far worst) later) (reached_nowhere running p amount h)
+      judging_unfinished h = one_judged ∙ ap (λ (x : Option ℕ). after_job x r (worst_so_far worst) later) (reached_nowhere running p amount h)
 
       -- it ends in the next window
       module _ (there : 2 * p.windows < length running) where
@@ -157,5 +158,5 @@ module _ {task : Task} {span : ℕ} {running : List ℕ} {worst : Worst} {passed
           above = omega arith;
           short = s;
           released = λ h. next_release_lem.again (omega arith);
-          ahead = one_judged ∙ ap (λ (x : Instant). after_job x r (worst_so_far worst) later) (reached_there running p amount there) ∙ ap later (sym e);
+          ahead = one_judged ∙ ap (λ (x : Option ℕ). after_job x r (worst_so_far worst) later) (reached_there running p amount there) ∙ ap later (sym e);
         }

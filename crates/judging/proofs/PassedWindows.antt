@@ -8,7 +8,8 @@ use native.Mathlib.Numerals.{add-one}
 use native.Mathlib.Decide.{dec_lt}
 use lib.ListN.{length, get_or, take, drop, drop_of_length-le}
 use borrow.Author.Tests.{lt-ltb, le-ltb, le-leb, lt-leb}
-use Rattle.windows.specs.Windows.{size, is_plain, at, not_provided, provide}
+use Rattle.std.specs.Prelude.{Some, None}
+use Rattle.windows.specs.Windows.{size, is_plain, provide}
 use Rattle.windows.specs.Walks.{walk}
 use Rattle.windows.proofs.Ticks.{cover_after, plain_apart, plain_end}
 use Rattle.windows.proofs.Providing.{walk_is}
@@ -79,22 +80,22 @@ walk_behind (s ∷ (e ∷ r)) (suc (suc i)) n ev h k =
     rw (lt-leb n (e - s) (omega arith)) (walk_behind r i (n - (e - s)) ev (omega arith) (omega arith) ∙ ap (walk (drop i r)) (omega arith))
 
 -- it ends in a window that is long enough
-walk_ends : (s e n : ℕ) (r : List ℕ) → n ≤ e - s → walk (s ∷ (e ∷ r)) n ≡ at (s + n)
+walk_ends : (s e n : ℕ) (r : List ℕ) → n ≤ e - s → walk (s ∷ (e ∷ r)) n ≡ Some (s + n)
 unfolding walk
 walk_ends s e n r h = rw (le-leb n (e - s) h)
 
 -- and nowhere, if there is none
-walk_none : (n : ℕ) → walk [] n ≡ not_provided
+walk_none : (n : ℕ) → walk [] n ≡ None
 unfolding walk
 walk_none n = refl
 
 module _ (l : List ℕ) (p : Passed) (n : ℕ) where
   -- in the next window
-  pub reached_there : 2 * p.windows < length l → reached_at l p n ≡ at (get_or l (2 * p.windows) 0 + (n - p.given))
+  pub reached_there : 2 * p.windows < length l → reached_at l p n ≡ Some (get_or l (2 * p.windows) 0 + (n - p.given))
   reached_there h = rw (lt-ltb (2 * p.windows) (length l) h)
 
   -- nowhere, if there is none
-  pub reached_nowhere : length l ≤ 2 * p.windows → reached_at l p n ≡ not_provided
+  pub reached_nowhere : length l ≤ 2 * p.windows → reached_at l p n ≡ None
   reached_nowhere h = rw (le-ltb (2 * p.windows) (length l) h)
 
   module _ (plain : is_plain l ≡ true) (passes : Passes l p) (above : p.given < n) where
