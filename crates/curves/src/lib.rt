@@ -8,7 +8,9 @@ ghost use Rattle.curves.specs.Calls.{Adds, Cuts, Fits, Provides};
 
 use fitting::Counts;
 use refusals::{Ground, Refusal, required};
-use walks::{LIMIT, adding, cutting};
+use walks::LIMIT;
+use walks::adding::Sum;
+use walks::cutting::Cut;
 
 // Whether a curve is plain: an even length, each start below its end, each end below the next start, no end above LIMIT.
 #[tactic(auto, using(crate::proofs::Fronts::fronts))]
@@ -33,8 +35,9 @@ pub fn add(a: &[u32], b: &[u32], out: &mut [u32]) -> Result<usize, Refusal>
 {
     required(plain(a), Ground::NotPlain)?;
     required(plain(b), Ground::NotPlain)?;
-    required(adding::fits(a, b, out.len()), Ground::NoRoom)?;
-    Ok(adding::write(a, b, out))
+    let sum = Sum::of(a, b);
+    required(walks::fits(sum, out.len()), Ground::NoRoom)?;
+    Ok(walks::write(sum, out))
 }
 
 #[tactic(auto, using(crate::proofs::Rooms::cut_room))]
@@ -44,8 +47,9 @@ pub fn cut(curve: &[u32], period: u32, out: &mut [u32]) -> Result<usize, Refusal
 {
     required(period != 0, Ground::ArgumentZero)?;
     required(plain(curve), Ground::NotPlain)?;
-    required(cutting::fits(curve, period, out.len()), Ground::NoRoom)?;
-    Ok(cutting::write(curve, period, out))
+    let pieces = Cut::of(curve, period);
+    required(walks::fits(pieces, out.len()), Ground::NoRoom)?;
+    Ok(walks::write(pieces, out))
 }
 
 #[tactic(auto, using(crate::proofs::Rooms::fit_room))]
