@@ -1,3 +1,2 @@
 pub mod Fronts
-pub mod Fills
 pub mod Puts
