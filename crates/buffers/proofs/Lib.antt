@@ -1,2 +1,3 @@
 pub mod Fronts
 pub mod Puts
+pub mod Copies

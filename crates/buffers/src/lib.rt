@@ -2,7 +2,7 @@
 #![tactic(auto)]
 
 ghost use Rattle.std.specs.Prelude.{◌≡◌, ◌≤◌, ◌<◌, length, take, replicate};
-ghost use Rattle.buffers.specs.Parts.{Curve, Drawn, Wrote, with_window};
+ghost use Rattle.buffers.specs.Parts.{Curve, Drawn, with_window};
 
 // Puts a window behind the curve that a buffer's first `n` numbers are, joined to its last window if they touch.
 pub fn put(out: &mut [u32], n: usize, s: u32, e: u32) -> usize
@@ -16,14 +16,6 @@ pub fn put(out: &mut [u32], n: usize, s: u32, e: u32) -> usize
     out[n] = s;
     out[n + 1] = e;
     n + 2
-}
-
-// Copies a curve to the front of a buffer.
-pub fn copy(curve: &[u32], out: &mut [u32])
-    requires { length curve.now ≤ length out.old }
-    ensures { Wrote out.old out.new (length curve.now) curve.now }
-{
-    out[..curve.len()].copy_from_slice(curve);
 }
 
 // Sets every number of the six work buffers to 0.

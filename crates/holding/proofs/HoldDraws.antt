@@ -4,9 +4,11 @@ use mathlib.Core.Path.{◌≡◌}
 use mathlib.Core.List.{List}
 use native.Mathlib.Omega.{arith}
 use lib.ListN.{length, get_or, take}
+use lib.Seq.{length-take-le}
 use Rattle.windows.specs.Windows.{cover}
+use Rattle.buffers.proofs.Fronts.{plain_room}
 use Rattle.holding.specs.declared.Place.{Place}
-use Rattle.buffers.specs.Parts.{Curve, Drawn, with_window}
+use Rattle.buffers.specs.Parts.{PlainBelow, Curve, Drawn, with_window}
 use Rattle.holding.specs.Pieces.{held_from, left_from, window_behind, Leaves, Holds, Served}
 use Rattle.holding.proofs.HeldBlocks.{held_not_free}
 use Rattle.holding.proofs.DrawnSoFar.{DrawnBelow, drawn_none, drawn_curve, drawn_on, drawn_window, drawn_all}
@@ -76,3 +78,9 @@ draws_all {C} {T} {demand} {free} {w = w} g s k d =
   where
     over : (t : ℕ) → w.at ≤ t → cover free t ≡ 0
     over t l = s.offers.gap t l (λ o. absurd (omega arith))
+
+-- ticks of a curve that has room have room
+pub drawn_few : {n : ℕ} {free old new : List ℕ} {f : ℕ → ℕ} → PlainBelow 16000 free → ((t : ℕ) → f t ≤ cover free t) → Drawn old new n f → n ≤ 16000
+drawn_few {n} {new = new} p h d =
+    let over : (t : ℕ) → 16000 ≤ t → cover (take n new) t ≡ 0 = λ t k. omega (arith, d.covers t, h t, p.over t k) in
+    omega (arith, plain_room (take n new) (record { plain = d.plain; over = over }), length-take-le n new d.count)

@@ -24,10 +24,10 @@ enum Piece {
     Left(u32),
 }
 
-// How many numbers were written.
+// How many numbers were written: of the ticks that a demand takes, and of those that are left.
 #[derive(Clone, Copy)]
 pub struct Counts {
-    pub held: usize,
+    pub taken: usize,
     pub left: usize,
 }
 
@@ -145,18 +145,19 @@ pub fn hold(
 ) -> Counts
     requires { (0 < period) × (period ≤ 16000) × (capacity ≤ 16000) × PlainBelow 16000 demand.now × PlainBelow 16000 free.now
         × (16000 ≤ length held.old) × (16000 ≤ length left.old) }
-    ensures { Drawn held.old held.new result.held (held_from capacity period demand.now free.now)
-        × Drawn left.old left.new result.left (left_from capacity period demand.now free.now) }
+    ensures taken { Drawn held.old held.new result.taken (held_from capacity period demand.now free.now) }
+    ensures left { Drawn left.old left.new result.left (left_from capacity period demand.now free.now) }
+    ensures fits { result.left ≤ 16000 }
 {
     let mut place = start(demand);
-    let mut counts = Counts { held: 0, left: 0 };
+    let mut counts = Counts { taken: 0, left: 0 };
     let mut f: usize = 0;
     while f < free.len() {
         let at = place.at.max(free[f]);
         let here = entered(place, at, capacity, period);
         match next_piece(here, demand, free[f + 1]) {
             Piece::Held(stop) => {
-                counts.held = put(held, counts.held, at, stop);
+                counts.taken = put(held, counts.taken, at, stop);
                 place = served(here, demand, stop);
             }
             Piece::Left(stop) => {

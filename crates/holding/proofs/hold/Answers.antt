@@ -1,6 +1,6 @@
 use Rattle.std.proofs.Common.{arith}
 use Rattle.holding.proofs.HoldTurns.{given_by, stands_first, free_window, free_most, turn_in, turn_offered}
-use Rattle.holding.proofs.HoldDraws.{draws_none, draws_room, turn_held, turn_left_over, turn_less, draws_all}
+use Rattle.holding.proofs.HoldDraws.{draws_none, draws_room, turn_held, turn_left_over, turn_less, draws_all, drawn_few}
 use Rattle.holding.proofs.hold.Goals.{in-Held, in-Left}
 use Rattle.holding.proofs.hold.Goals as goal
 
@@ -58,4 +58,5 @@ loop-f-preserved c =
 
 pub returns : goal.returns
 returns c =
-    draws_all (given_by c.requires.0 c.requires.3 c.requires.4) c.loop-f.invariant.stands c.loop-f-test.false c.loop-f.invariant.draws
+    let d = draws_all (given_by c.requires.0 c.requires.3 c.requires.4) c.loop-f.invariant.stands c.loop-f-test.false c.loop-f.invariant.draws in
+    record { taken = d.0; left = d.1; fits = drawn_few c.requires.4 (λ t. omega arith) d.1 }

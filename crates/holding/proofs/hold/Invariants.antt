@@ -7,7 +7,7 @@ use Rattle.holding.proofs.hold.Given as goal
 abbrev pub invariant-loop-f : goal.invariant-loop-f
 invariant-loop-f l = record {
   stands : Stands l.capacity l.period l.demand l.free l.place l.f;
-  draws : Draws l.capacity l.period l.demand l.free l.fn.held l.fn.left l.held l.left l.counts.held l.counts.left l.place.at;
+  draws : Draws l.capacity l.period l.demand l.free l.fn.held l.fn.left l.held l.left l.counts.taken l.counts.left l.place.at;
 }
 
 abbrev pub decreases-loop-f : goal.decreases-loop-f
