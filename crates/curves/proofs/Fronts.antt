@@ -74,6 +74,9 @@ given_never (s ∷ (e ∷ l)) n h = absurd (omega arith)
 pub plain_starts : (l : List ℕ) → is_plain l ≡ true → 2 ≤ length l → get_or l 0 0 < get_or l 1 0
 plain_starts l h k = let t = plain_turn l 0 h (omega arith) in t.front.rises
 
+pub plain_ends : (l : List ℕ) → is_plain l ≡ true → 2 ≤ length l → get_or l 1 0 ≤ 1000000
+plain_ends l h k = let t = plain_turn l 0 h (omega arith) in t.front.bounded
+
 pub plain_behind : (l : List ℕ) → is_plain l ≡ true → 2 ≤ length l → is_plain (take (length l - 2) (drop 2 l)) ≡ true
 plain_behind l h k =
     let t = plain_turn l 0 h (omega arith) in
@@ -84,4 +87,4 @@ plain_behind l h k =
 pub given_when : (l : List ℕ) (n : ℕ) → is_plain l ≡ true → 0 < n → walk l n ≡ provide l n
 given_when l n h k = walk_is l n (plain_apart 0 l h) k
 
-pub ruleset given = (given_when, given_here, given_later, given_never, plain_starts, plain_behind)
+pub ruleset given = (given_when, given_here, given_later, given_never, plain_starts, plain_ends, plain_behind)

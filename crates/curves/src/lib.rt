@@ -40,8 +40,8 @@ pub fn add(a: &[u32], b: &[u32], out: &mut [u32]) -> Result<usize, Refusal>
     Ok(walks::write(sum, out))
 }
 
-#[tactic(auto, using(crate::proofs::Rooms::cut_room))]
 // Cuts a curve at every multiple of a period strictly inside one of its windows.
+#[tactic(auto, using(crate::proofs::Rooms::cut_room))]
 pub fn cut(curve: &[u32], period: u32, out: &mut [u32]) -> Result<usize, Refusal>
     ensures { Cuts curve.now period out.old result out.new }
 {
@@ -52,8 +52,8 @@ pub fn cut(curve: &[u32], period: u32, out: &mut [u32]) -> Result<usize, Refusal
     Ok(walks::write(pieces, out))
 }
 
-#[tactic(auto, using(crate::proofs::Rooms::fit_room))]
 // Fits a demand into a supply: what is left of the supply, what is served, and what is left of the demand.
+#[tactic(auto, using(crate::proofs::Rooms::fit_room))]
 pub fn fit(
     demand: &[u32],
     supply: &[u32],
@@ -73,8 +73,8 @@ pub fn fit(
     Ok(fitting::write(demand, supply, left, served, rest))
 }
 
-#[tactic(auto, using(crate::proofs::Fronts::given))]
 // When a curve has given `amount` ticks, if it has so many.
+#[tactic(auto, using(crate::proofs::Fronts::given))]
 pub fn time_to_provide(curve: &[u32], amount: u32) -> Result<Option<u32>, Refusal>
     ensures { Provides curve.now amount result }
 {

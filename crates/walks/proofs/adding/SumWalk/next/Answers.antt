@@ -13,10 +13,10 @@ loop-next-init c = open_first_lem c.requires c.in-Some.ensures
 pub returns-then-open-next : goal.returns-then-open-next
 returns-then-open-next c =
     let o = c.loop-next.invariant in
-    record { is = open_gap o c.in-Some-take.ensures c.if-open-next.true; bounded = o.bounded; behind = o.plain }
+    record { is = open_gap o c.in-Some-take.ensures (omega arith); bounded = o.bounded; behind = o.plain }
 
 pub loop-next-preserved : goal.loop-next-preserved
-loop-next-preserved c = open_more c.loop-next.invariant c.in-Some-take.ensures c.if-open-next.false c.if-open-gt-LIMIT.false
+loop-next-preserved c = open_more c.loop-next.invariant c.in-Some-take.ensures (omega arith) (omega arith)
 
 pub returns : goal.returns
 returns c = let o = c.loop-next.invariant in record { is = open_end o c.in_default-take.ensures; bounded = o.bounded; behind = o.plain }
