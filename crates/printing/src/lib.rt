@@ -12,7 +12,7 @@ use putting::Page;
 use refusals::Refusal;
 
 // Puts the line of a refusal.
-pub fn put_refused(page: &mut Page<'_>, refusal: Refusal)
+fn put_refusal(page: &mut Page<'_>, refusal: Refusal)
     requires { page.old.count + 41 ≤ 1000000 }
     ensures adds { Adds page.old page.new (refused_line refusal) }
     ensures most { page.new.count ≤ page.old.count + 41 }
@@ -21,6 +21,15 @@ pub fn put_refused(page: &mut Page<'_>, refusal: Refusal)
     page.put_field(refusal.line);
     page.put_field(refusal.place);
     page.put_byte(b'\n');
+}
+
+// Puts the line of a refusal at the front of a buffer, and answers how many bytes it has.
+pub fn put_refused(out: &mut [u8], refusal: Refusal) -> usize
+    ensures { Put out.old out.new 0 (refused_line refusal) result × (result ≤ 41) }
+{
+    let mut page = Page::new(out);
+    put_refusal(&mut page, refusal);
+    page.count
 }
 
 // Puts the line of the span.
@@ -131,7 +140,7 @@ fn put_analysis(page: &mut Page<'_>, analysis: Analysis)
     ensures most { page.new.count ≤ page.old.count + 4240 }
 {
     if analysis.refusal.number != 0 {
-        return put_refused(page, analysis.refusal);
+        return put_refusal(page, analysis.refusal);
     }
     put_span(page, analysis.span);
     put_lines(page, &analysis.servers[..analysis.servers_n]);

@@ -9,7 +9,7 @@ use Rattle.printing.proofs.put_analysis.Goals as goal
 
 pub returns-then-analysis-ne0-clause-adds : goal.returns-then-analysis-ne0-clause-adds
 unfolding report_of
-returns-then-analysis-ne0-clause-adds c = rw (ne_eqb _ _ c.if-analysis-ne0.true) c.put_refused.ensures.adds
+returns-then-analysis-ne0-clause-adds c = rw (ne_eqb _ _ c.if-analysis-ne0.true) c.put_refusal.ensures.adds
 
 pub returns-clause-adds : goal.returns-clause-adds
 unfolding report_of

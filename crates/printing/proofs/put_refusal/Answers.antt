@@ -1,6 +1,6 @@
 use Rattle.putting.proofs.Pages.{adds_more}
 use Rattle.printing.specs.Report.{refused_line}
-use Rattle.printing.proofs.put_refused.Goals as goal
+use Rattle.printing.proofs.put_refusal.Goals as goal
 
 pub returns-clause-adds : goal.returns-clause-adds
 unfolding refused_line
