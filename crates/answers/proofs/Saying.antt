@@ -15,7 +15,7 @@ use Rattle.answers.proofs.FreeTicks.{full_ends, ends_full, free_counts}
 
 -- ---- a task
 
-pub task_says : (table : Table) → Obeyed table → (k : ℕ) → k < table.tasks_n → TaskSays table k (task_answer table k).response
+pub task_says : (table : Table) → Obeyed table → (k : ℕ) → k < table.tasks_n → TaskSays table k (task_answer table k)
 task_says table ok k h = go (verdict_of table k) refl
   where
     go : (x : Verdict) → verdict_of table k ≡ x → TaskSays table k (response_of (task_at table k).deadline x)

@@ -5,6 +5,7 @@ use mathlib.Core.List.{List, ◌∷◌}
 use mathlib.Core.Bool.{Bool, true, false}
 use native.Mathlib.Omega.{arith}
 use native.Mathlib.Nat.{div-le_self}
+use Rattle.std.specs.Prelude.{Option, Some, None}
 use lib.IntN.{nat_abs}
 use lib.ListN.{length, get_or}
 use Rattle.basics.specs.Choice.{pick}
@@ -19,8 +20,6 @@ use Rattle.answers.specs.declared.Analysis.{Analysis}
 use Rattle.answers.specs.declared.Response.{Response}
 use Rattle.answers.specs.declared.Response.TheVariants as response
 use Rattle.answers.specs.declared.ServerAnswer.{ServerAnswer}
-use Rattle.answers.specs.declared.Short.{Short}
-use Rattle.answers.specs.declared.Short.TheVariants as short
 use Rattle.answers.specs.declared.WorstJob.{WorstJob}
 use Rattle.answers.specs.Answers.{Verdict, worst, unfinished, none, verdict_of, response_of, task_answer, full_periods, server_answer, no_server_answer, no_task_answer}
 use Rattle.answers.specs.Jobs.{Job, releases_of, ShortSays}
@@ -40,9 +39,9 @@ ResponseWithin (response.Worst w) = WorstWithin w
 ResponseWithin (response.Unfinished r) = r < 16000
 ResponseWithin response.None = Unit {0}
 
-abbrev pub ShortWithin : Short → Type 0
-ShortWithin (short.First k) = k < 16000
-ShortWithin short.Never = Unit {0}
+abbrev pub ShortWithin : Option ℕ → Type 0
+ShortWithin (Some k) = k < 16000
+ShortWithin None = Unit {0}
 
 pub record ServerWithin (answer : ServerAnswer) : Type 0 where
   pub full : answer.full ≤ 16000
@@ -55,7 +54,7 @@ pub record Within (a : Analysis) : Type 0 where
   pub place : a.refusal.place ≤ last_place
   pub span : a.span ≤ 16000
   pub of_server : (i : ℕ) → i < a.servers_n → ServerWithin (get_or a.servers i no_server_answer)
-  pub of_task : (k : ℕ) → k < a.tasks_n → ResponseWithin (get_or a.tasks k no_task_answer).response
+  pub of_task : (k : ℕ) → k < a.tasks_n → ResponseWithin (get_or a.tasks k no_task_answer)
 
 -- ---- a task
 
@@ -79,7 +78,7 @@ job_below : (table : Table) (k n r : ℕ) → Job (releases_of table k) n r → 
 job_below table k n r j =
     omega (arith, j.release, release_below (task_at table k).release table.span 0 (n - 1) (omega (arith, j.some, j.most)))
 
-pub task_within : (table : Table) → Obeyed table → (k : ℕ) → k < table.tasks_n → ResponseWithin (task_answer table k).response
+pub task_within : (table : Table) → Obeyed table → (k : ℕ) → k < table.tasks_n → ResponseWithin (task_answer table k)
 task_within table ok k h = go (verdict_of table k) refl
   where
     go : (x : Verdict) → verdict_of table k ≡ x → ResponseWithin (response_of (task_at table k).deadline x)
@@ -103,9 +102,9 @@ module _ (table : Table) (ok : Obeyed table) (i : ℕ) (h : i < table.servers_n)
   full_within = omega (arith, div-le_self table.span (server_at table i).period, span_most table ok)
 
   -- a short period is one of the full ones
-  short_within : (s : Short) → ShortSays table i (full_periods table i) s → ShortWithin s
-  short_within (short.First k) p = omega (arith, p.0, full_within)
-  short_within short.Never p = tt
+  short_within : (s : Option ℕ) → ShortSays table i (full_periods table i) s → ShortWithin s
+  short_within (Some k) p = omega (arith, p.0, full_within)
+  short_within None p = tt
 
   pub server_within : ServerWithin (server_answer table i)
   server_within =

@@ -1,6 +1,6 @@
 -- Document 01, 'Servers, one tick at a time' and 'What the report program prints': worst response, unfinished or none of a task, full and short
 -- periods of a server.
-use Rattle.std.specs.Prelude.{ℕ, zero, suc, ◌-◌, ◌*◌, ◌/◌, List, [], ◌∷◌, ltb, ℤ, pos, ◌-ℤ◌}
+use Rattle.std.specs.Prelude.{ℕ, zero, suc, ◌-◌, ◌*◌, ◌/◌, List, [], ◌∷◌, ltb, Option, Some, None, ℤ, pos, ◌-ℤ◌}
 use Rattle.basics.specs.Choice.{pick}
 use Rattle.windows.specs.Windows.{upto, cover, Instant, at, not_provided, provide}
 use Rattle.table.specs.declared.Server.{Server}
@@ -9,9 +9,6 @@ use Rattle.table.specs.Places.{server_at, task_at, first_of}
 use Rattle.schedule.specs.Curves.{releases_from, free_of, running_of}
 use Rattle.answers.specs.declared.Response.{Response}
 use Rattle.answers.specs.declared.Response.TheVariants as response
-use Rattle.answers.specs.declared.TaskAnswer.{TaskAnswer}
-use Rattle.answers.specs.declared.Short.{Short}
-use Rattle.answers.specs.declared.Short.TheVariants as short
 use Rattle.answers.specs.declared.ServerAnswer.{ServerAnswer}
 
 -- ---- a task
@@ -53,8 +50,8 @@ response_of deadline (worst n r) = response.Worst (record { response = n; releas
 response_of deadline (unfinished r) = response.Unfinished r
 response_of deadline none = response.None
 
-abbrev pub task_answer : Table → ℕ → TaskAnswer
-task_answer table k = record { response = response_of (task_at table k).deadline (verdict_of table k) }
+abbrev pub task_answer : Table → ℕ → Response
+task_answer table k = response_of (task_at table k).deadline (verdict_of table k)
 
 -- ---- a server
 
@@ -78,9 +75,9 @@ abbrev pub first_short : Table → ℕ → ℕ
 first_short table i = short_on (free_of table i) (server_at table i).capacity (server_at table i).period (full_periods table i)
 
 -- "the first short one (from 0)"
-abbrev pub short_of : ℕ → Short
-short_of zero = short.Never
-short_of (suc k) = short.First k
+abbrev pub short_of : ℕ → Option ℕ
+short_of zero = None
+short_of (suc k) = Some k
 
 -- what a server's answer says, by its free curve
 abbrev pub answer_on : Server → ℕ → List ℕ → ServerAnswer
@@ -94,11 +91,11 @@ server_answer table i = answer_on (server_at table i) table.span (free_of table 
 -- ---- all of them
 
 -- an entry beyond the counts
-abbrev pub no_task_answer : TaskAnswer
-no_task_answer = record { response = response.None }
+abbrev pub no_task_answer : Response
+no_task_answer = response.None
 
 abbrev pub no_server_answer : ServerAnswer
-no_server_answer = record { full = 0; short = short.Never }
+no_server_answer = record { full = 0; short = None }
 
 -- the k entries from place i on: those below a count, and then empty ones
 unfoldable pub entries : {A : Type 0} → (ℕ → A) → A → ℕ → ℕ → ℕ → List A
@@ -109,5 +106,5 @@ entries f empty count (suc k) i = pick (ltb i count) (f i) empty ∷ entries f e
 abbrev pub server_answers : Table → List ServerAnswer
 server_answers table = entries (server_answer table) no_server_answer table.servers_n 16 0
 
-abbrev pub task_answers : Table → List TaskAnswer
+abbrev pub task_answers : Table → List Response
 task_answers table = entries (task_answer table) no_task_answer table.tasks_n 64 0

@@ -1,6 +1,6 @@
 -- Demand 3, its second half, in terms of the machine's run: the jobs of a task, when they end, and what its answer says of them; the free ticks of
 -- a server, and what its answer says of them.
-use Rattle.std.specs.Prelude.{ℕ, suc, ◌-◌, ◌*◌, ◌≤◌, ◌<◌, ◌≡◌, List, false, length, get_or, ltb, eqb}
+use Rattle.std.specs.Prelude.{ℕ, suc, ◌-◌, ◌*◌, ◌≤◌, ◌<◌, ◌≡◌, List, Option, Some, None, false, length, get_or, ltb, eqb}
 use Rattle.basics.specs.Choice.{pick}
 use Rattle.windows.specs.Windows.{upto}
 use Rattle.table.specs.declared.Table.{Table}
@@ -11,8 +11,6 @@ use Rattle.schedule.specs.Curves.{releases_from}
 use Rattle.answers.specs.Answers.{margin_of}
 use Rattle.answers.specs.declared.Response.{Response}
 use Rattle.answers.specs.declared.Response.TheVariants as response
-use Rattle.answers.specs.declared.Short.{Short}
-use Rattle.answers.specs.declared.Short.TheVariants as short
 use Rattle.answers.specs.declared.ServerAnswer.{ServerAnswer}
 
 -- ---- a task
@@ -75,10 +73,10 @@ unheld_in table i k =
     upto (unheld table i) (suc k * T) - upto (unheld table i) (k * T)
 
 -- "It is short if it has fewer than C free ticks": of so many full periods the first that has, or none
-abbrev pub ShortSays : Table → ℕ → ℕ → Short → Type 0
-ShortSays table i full (short.First k) =
+abbrev pub ShortSays : Table → ℕ → ℕ → Option ℕ → Type 0
+ShortSays table i full (Some k) =
     (k < full) × (unheld_in table i k < (server_at table i).capacity) × ((u : ℕ) → u < k → (server_at table i).capacity ≤ unheld_in table i u)
-ShortSays table i full short.Never = (u : ℕ) → u < full → (server_at table i).capacity ≤ unheld_in table i u
+ShortSays table i full None = (u : ℕ) → u < full → (server_at table i).capacity ≤ unheld_in table i u
 
 -- what the answer of the server at place i says of the machine's run
 pub record ServerSays (table : Table) (i : ℕ) (answer : ServerAnswer) : Type 0 where

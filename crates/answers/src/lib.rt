@@ -19,27 +19,15 @@ pub enum Response {
     None,
 }
 
-#[derive(Clone, Copy)]
-pub struct TaskAnswer {
-    pub response: Response,
-}
-
-// The first short period of a server, counted from 0, if there is one.
-#[derive(Clone, Copy)]
-pub enum Short {
-    First(u32),
-    Never,
-}
-
-// A server's answer: how many full periods the span has, and the first short one.
+// A server's answer: how many full periods the span has, and the first short one, counted from 0, if there is one.
 #[derive(Clone, Copy)]
 pub struct ServerAnswer {
     pub full: u32,
-    pub short: Short,
+    pub short: Option<u32>,
 }
 
-// The answers of a table's servers and tasks, as many as it has, and its span; those beyond its counts are `Never` and `None`. Or a
-// refusal, with no answers.
+// The answers of a table's servers and tasks, as many as it has, and its span; those beyond its counts have no periods and are `None`. Or
+// a refusal, with no answers.
 #[derive(Clone, Copy)]
 pub struct Analysis {
     pub refusal: Refusal,
@@ -47,5 +35,5 @@ pub struct Analysis {
     pub servers_n: usize,
     pub tasks_n: usize,
     pub servers: [ServerAnswer; 16],
-    pub tasks: [TaskAnswer; 64],
+    pub tasks: [Response; 64],
 }

@@ -1,3 +1,3 @@
 pub mod Fronts
-pub mod Fills
 pub mod Puts
+pub mod Copies

@@ -17,6 +17,9 @@ pub record Coming (buffer : List ℕ) (n s e : ℕ) : Type 0 where
   pub rises : s < e
   pub ends : e ≤ 16000
 
+pub coming : {buffer : List ℕ} {n s e : ℕ} → Curve buffer n s × (s < e) × (e ≤ 16000) → Coming buffer n s e
+coming h = record { curve = h.0; rises = h.1; ends = h.2 }
+
 module _ (buffer : List ℕ) (s e : ℕ) where
   -- the curve stands apart
   front_apart : (n : ℕ) → Coming buffer n s e → Apart 0 (take n buffer)

@@ -2,45 +2,20 @@
 #![tactic(auto)]
 
 ghost use Rattle.std.specs.Prelude.{◌≡◌, ◌≤◌, ◌<◌, length, take, replicate};
-ghost use Rattle.buffers.specs.Parts.{Curve, Drawn, Wrote, with_window};
+ghost use Rattle.buffers.specs.Parts.{Curve, Drawn, with_window};
 
 // Puts a window behind the curve that a buffer's first `n` numbers are, joined to its last window if they touch.
 pub fn put(out: &mut [u32], n: usize, s: u32, e: u32) -> usize
     requires { Curve out.old n s × (s < e) × (e ≤ 16000) }
     ensures { Drawn out.old out.new result (with_window (take n out.old) s e) }
 {
-    if 0 < n {
-        if out[n - 1] == s {
-            out[n - 1] = e;
-            return n;
-        }
+    if 0 < n && out[n - 1] == s {
+        out[n - 1] = e;
+        return n;
     }
     out[n] = s;
     out[n + 1] = e;
     n + 2
-}
-
-// Copies a curve to the front of a buffer.
-pub fn copy(curve: &[u32], out: &mut [u32])
-    requires { length curve.now ≤ length out.old }
-    ensures { Wrote out.old out.new (length curve.now) curve.now }
-{
-    let mut i: usize = 0;
-    while i < curve.len() {
-        out[i] = curve[i];
-        i += 1;
-    }
-}
-
-// Sets every number of a buffer to 0.
-pub fn clear(out: &mut [u32])
-    ensures { out.new ≡ replicate (length out.old) 0 }
-{
-    let mut i: usize = 0;
-    while i < out.len() {
-        out[i] = 0;
-        i += 1;
-    }
 }
 
 // Sets every number of the six work buffers to 0.
@@ -56,10 +31,10 @@ pub fn clear_all(
         × (part.new ≡ replicate (length part.old) 0) × (held.new ≡ replicate (length held.old) 0)
         × (running.new ≡ replicate (length running.old) 0) × (spare.new ≡ replicate (length spare.old) 0) }
 {
-    clear(free);
-    clear(sum);
-    clear(part);
-    clear(held);
-    clear(running);
-    clear(spare);
+    free.fill(0);
+    sum.fill(0);
+    part.fill(0);
+    held.fill(0);
+    running.fill(0);
+    spare.fill(0);
 }

@@ -60,12 +60,12 @@ module _ (H : ℕ) (a b out : List ℕ) (z : 0 < H) (h : H ≤ 16000) (p : Plain
   sum_cut : PlainBelow 16000 (below H (add_up a b))
   sum_cut = plain_higher H 16000 _ h (plain_below H _ (omega arith) (below_inside H (add_up a b) (plain_apart 0 (add_up a b) sum_plain)))
 
-  -- what is kept of the sum has room
-  pub sum_room : length (below H (add_up a b)) ≤ 16000
-  sum_room = plain_room (below H (add_up a b)) sum_cut
+  -- the sum has room
+  pub sum_few : length (add_up a b) ≤ 16000
+  sum_few = omega (arith, plain_room (below H (add_up a b)) sum_cut, cut_length H 0 (add_up a b) (plain_apart 0 (add_up a b) sum_plain) starts)
 
   sum_short : length (add_up a b) ≤ length out
-  sum_short = omega (arith, sum_room, cut_length H 0 (add_up a b) (plain_apart 0 (add_up a b) sum_plain) starts)
+  sum_short = omega (arith, sum_few)
 
   -- so it can be written
   pub sum_fits : fits_in (add_up a b) (length out) ≡ true
@@ -75,20 +75,14 @@ module _ (H : ℕ) (a b out : List ℕ) (z : 0 < H) (h : H ≤ 16000) (p : Plain
   pub sum_wrote : {n : ℕ} {after : List ℕ} → (n ≡ length (add_up a b)) × (after ≡ front (add_up a b) out) → Wrote out after n (add_up a b)
   sum_wrote w = front_wrote (add_up a b) out _ _ sum_short w.0 w.1
 
--- a curve that was written and then cut off
-pub written_cut : (H : ℕ) {n : ℕ} {old mid new l : List ℕ} → Wrote old mid n l → Wrote mid new n (below H (take n mid)) → Wrote old new n (below H l)
-written_cut H w v = record { same = v.same ∙ w.same; count = v.count; front = v.front ∙ ap (below H) w.front }
-
--- a curve that was written to one buffer and then copied to another
-pub written_copied : {n : ℕ} {first from old new l : List ℕ} → Wrote first from n l → Wrote old new (length (take n from)) (take n from) → Wrote old new n l
-written_copied {n} {from} {new} w v =
-    let k : length (take n from) ≡ n = length-take-le n from w.count in
-    record { same = v.same; count = omega (arith, v.count); front = sym (ap (λ m. take m new) k) ∙ v.front ∙ w.front }
+-- what was written has as many numbers as were written
+pub written_length : {n : ℕ} {old new l : List ℕ} → Wrote old new n l → length l ≡ n
+written_length {n} {old} {new} w = ap length (sym w.front) ∙ length-take-le n new w.count
 
 -- a task's demand is a plain curve below the span
 pub demand_plain : (task : Task) (span : ℕ) → TaskObeyed task → span ≤ 16000 → PlainBelow span (demand_of span task)
 demand_plain task span ok h = plain_below span (demand_of span task) (omega arith) (demand_inside span task ok.some)
 
--- the same curve by another name
-pub written_same : {n : ℕ} {old new l m : List ℕ} → l ≡ m → Wrote old new n l → Wrote old new n m
-written_same e w = record { same = w.same; count = w.count; front = w.front ∙ e }
+-- so is one that was written
+pub written_plain : {task : Task} {span n : ℕ} {old new : List ℕ} → TaskObeyed task → span ≤ 16000 → Wrote old new n (demand_of span task) → PlainBelow span (take n new)
+written_plain {task} {span} ok h w = rw w.front (demand_plain task span ok h)

@@ -1,17 +1,14 @@
 -- A curve whose windows all start before H, cut off there; and that adding up two curves below H gives such a one. Assumes nothing.
 use Prim.Native.Nat.{ℕ, zero, suc, ◌-◌, ◌≤◌, ◌<◌, min}
-use mathlib.Core.Path.{◌≡◌, refl, sym, ap, ◌∙◌}
+use mathlib.Core.Path.{◌≡◌, refl, ap, ◌∙◌}
 use mathlib.Core.List.{List, [], ◌∷◌}
-use mathlib.Core.Bool.{true}
 use native.Mathlib.Omega.{arith}
 use native.Mathlib.Decide.{dec_lt}
-use lib.ListN.{length, get_or, set, take, length-set}
-use lib.Seq.{length-take-le, get_or-take, take-set-lt}
-use Rattle.windows.specs.Windows.{is_plain, cover, add_up, waiting, done, always, ◌⊕◌}
-use Rattle.windows.proofs.Ticks.{inside_yes, inside_late, Apart, cover_before, window_some, plain_apart}
+use lib.ListN.{length, get_or, set, length-set}
+use Rattle.windows.specs.Windows.{cover, add_up, waiting, done, always, ◌⊕◌}
+use Rattle.windows.proofs.Ticks.{inside_yes, inside_late, Apart, cover_before, window_some}
 use Rattle.windows.proofs.Adding.{add_ticks, add_apart}
 use Rattle.schedule.specs.Curves.{below}
-use Rattle.buffers.specs.Parts.{Wrote}
 use Rattle.demands.specs.Walks.{StartsBelow}
 
 -- ---- only the last end can lie behind H
@@ -42,65 +39,27 @@ below_is_last H lo (s ∷ (e ∷ (a ∷ (b ∷ r)))) p q =
 behind : (s e q : ℕ) (r : List ℕ) → length (s ∷ (e ∷ (q ∷ r))) - 1 ≡ suc (suc (length (q ∷ r) - 1))
 behind s e q r = omega arith
 
-last_stays : (H : ℕ) (l : List ℕ) → get_or l (length l - 1) 0 ≤ H → last_at H l ≡ l
+last_stored : (H lo : ℕ) (l : List ℕ) → Apart lo l → last_at H l ≡ set l (length l - 1) (min (get_or l (length l - 1) 0) H)
 unfolding last_at
-last_stays H [] h = refl
-last_stays H (s ∷ []) h = refl
-last_stays H (s ∷ (e ∷ [])) h = let m : min e H ≡ e = omega (arith, h) in rw m
-last_stays H (s ∷ (e ∷ (q ∷ r))) h = ap (λ (l : List ℕ). s ∷ (e ∷ l)) (last_stays H (q ∷ r) (rw (behind s e q r) at h))
-
-last_set : (H lo : ℕ) (l : List ℕ) → Apart lo l → H < get_or l (length l - 1) 0 → last_at H l ≡ set l (length l - 1) H
-unfolding last_at
-last_set H lo [] p h = absurd (omega (arith, h))
-last_set H lo (s ∷ []) p h = absurd p
-last_set H lo (s ∷ (e ∷ [])) p h = let m : min e H ≡ H = omega (arith, h) in rw m
-last_set H lo (s ∷ (e ∷ (q ∷ r))) p h =
-    rw (behind s e q r) (ap (λ (l : List ℕ). s ∷ (e ∷ l)) (last_set H (suc e) (q ∷ r) p.2 (rw (behind s e q r) at h)))
+last_stored H lo [] p = refl
+last_stored H lo (s ∷ []) p = absurd p
+last_stored H lo (s ∷ (e ∷ [])) p = refl
+last_stored H lo (s ∷ (e ∷ (q ∷ r))) p = rw (behind s e q r) (ap (λ (l : List ℕ). s ∷ (e ∷ l)) (last_stored H (suc e) (q ∷ r) p.2))
 
 module _ (H lo : ℕ) (l : List ℕ) (p : Apart lo l) (q : StartsBelow H l) where
-  -- a curve that ends at H or before is not changed
-  pub cut_stays : get_or l (length l - 1) 0 ≤ H → below H l ≡ l
-  cut_stays h = below_is_last H lo l p q ∙ last_stays H l h
-
-  -- of one that ends behind H, the last end is changed
-  pub cut_last : H < get_or l (length l - 1) 0 → below H l ≡ set l (length l - 1) H
-  cut_last h = below_is_last H lo l p q ∙ last_set H lo l p h
+  -- of a curve whose windows start before H, the last end is changed
+  pub cut_last : below H l ≡ set l (length l - 1) (min (get_or l (length l - 1) 0) H)
+  cut_last = below_is_last H lo l p q ∙ last_stored H lo l p
 
   -- no window is lost
   pub cut_length : length (below H l) ≡ length l
-  cut_length = go (dec_lt H (get_or l (length l - 1) 0))
-    where
-      go : Dec (H < get_or l (length l - 1) 0) → length (below H l) ≡ length l
-      go (yes h) = ap length (cut_last h) ∙ length-set l (length l - 1) H
-      go (no h) = ap length (cut_stays (omega arith))
+  cut_length = ap length cut_last ∙ length-set l (length l - 1) _
 
--- ---- the same at the front of a buffer
-
-module _ (H : ℕ) (old : List ℕ) (n : ℕ) (h : n ≤ length old) (p : is_plain (take n old) ≡ true) (q : StartsBelow H (take n old)) where
-  counted : length (take n old) ≡ n
-  counted = length-take-le n old h
-
-  last_number_lem : 0 < n → get_or (take n old) (length (take n old) - 1) 0 ≡ get_or old (n - 1) 0
-  last_number_lem z = rw counted (get_or-take n old (n - 1) 0 (omega arith))
-
-  -- nothing is to be cut off
-  pub cut_kept : get_or old (n - 1) 0 ≤ H → 0 < n → Wrote old old n (below H (take n old))
-  cut_kept k z =
-      record { same = refl; count = h; front = sym (cut_stays H 0 (take n old) (plain_apart 0 (take n old) p) q (rw (last_number_lem z) k)) }
-
-  pub cut_none : n ≡ 0 → Wrote old old n (below H (take n old))
-  unfolding below
-  cut_none z = record { same = refl; count = h; front = rw z }
-
-  -- the last end is stored
-  pub cut_stored : H < get_or old (n - 1) 0 → 0 < n → Wrote old (set old (n - 1) H) n (below H (take n old))
-  cut_stored k z =
-      let cut = cut_last H 0 (take n old) (plain_apart 0 (take n old) p) q (rw (last_number_lem z) k) in
-      record {
-        same = length-set old (n - 1) H;
-        count = omega (arith, length-set old (n - 1) H);
-        front = take-set-lt n old (n - 1) H (omega arith) ∙ sym (cut ∙ ap (λ m. set (take n old) (m - 1) H) counted);
-      }
+-- where there is no window, none is cut off
+pub cut_none : (H : ℕ) (l : List ℕ) → length l ≤ 0 → l ≡ below H l
+unfolding below
+cut_none H [] h = refl
+cut_none H (x ∷ l) h = absurd (omega (arith, h))
 
 -- ---- where no work comes from H on, no window starts there
 

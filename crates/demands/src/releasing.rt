@@ -52,6 +52,5 @@ pub fn demand(task: Task, span: u32, out: &mut [u32]) -> usize
         e += work;
         r = next_release(release, r);
     }
-    let end = if e < span { e } else { span };
-    put(out, n, s, end)
+    put(out, n, s, e.min(span))
 }

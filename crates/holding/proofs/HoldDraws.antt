@@ -2,17 +2,17 @@
 use Prim.Native.Nat.{ℕ, ◌+◌, ◌-◌, ◌≤◌, ◌<◌}
 use mathlib.Core.Path.{◌≡◌}
 use mathlib.Core.List.{List}
-use mathlib.Core.Bool.{true, false}
 use native.Mathlib.Omega.{arith}
 use lib.ListN.{length, get_or, take}
+use lib.Seq.{length-take-le}
 use Rattle.windows.specs.Windows.{cover}
+use Rattle.buffers.proofs.Fronts.{plain_room}
 use Rattle.holding.specs.declared.Place.{Place}
-use Rattle.holding.specs.declared.Piece.{Piece}
-use Rattle.buffers.specs.Parts.{Curve, Drawn, with_window}
-use Rattle.holding.specs.Pieces.{held_from, left_from, window_behind, Leaves, Holds, Cuts, Served, Skipped}
+use Rattle.buffers.specs.Parts.{PlainBelow, Curve, Drawn, with_window}
+use Rattle.holding.specs.Pieces.{held_from, left_from, window_behind, Leaves, Holds, Served}
 use Rattle.holding.proofs.HeldBlocks.{held_not_free}
 use Rattle.holding.proofs.DrawnSoFar.{DrawnBelow, drawn_none, drawn_curve, drawn_on, drawn_window, drawn_all}
-use Rattle.holding.proofs.HoldTurns.{Given, Stands, Turn, turn_free, turn_idle, turn_left, ticks_held, stands_skipped, stands_served}
+use Rattle.holding.proofs.HoldTurns.{Given, Stands, Turn, turn_free, turn_idle, turn_left, ticks_held, stands_left, stands_served}
 
 pub record Draws (C T : ℕ) (demand free held₀ left₀ held left : List ℕ) (n m at : ℕ) : Type 0 where
   pub in_held : DrawnBelow held₀ held n (held_from C T demand free) at
@@ -22,14 +22,14 @@ pub draws_none : (C T : ℕ) (demand free held left : List ℕ) → Draws C T de
 draws_none C T demand free held left = record { in_held = drawn_none held (held_from C T demand free); in_left = drawn_none left (left_from C T demand free) }
 
 -- there is room for a piece in either buffer
-pub draws_room : {C T : ℕ} {demand free old new : List ℕ} {from i n s : ℕ} {w : Place} {piece : Piece} {g : ℕ → ℕ} → Turn C T demand free from w i → w.at ≡ s
-    → Cuts demand w (get_or free (i + 1) 0) piece → DrawnBelow old new n g from → 16000 ≤ length old → Curve new n s × (s < piece.stop) × (piece.stop ≤ 16000)
-draws_room u e c d r = (drawn_curve d r (omega (arith, u.on)), omega (arith, c.some), omega (arith, c.within, u.most))
+pub draws_room : {C T : ℕ} {demand free old new : List ℕ} {from i n s stop : ℕ} {w : Place} {g : ℕ → ℕ} → Turn C T demand free from w i → w.at ≡ s
+    → w.at < stop → stop ≤ get_or free (i + 1) 0 → DrawnBelow old new n g from → 16000 ≤ length old → Curve new n s × (s < stop) × (stop ≤ 16000)
+draws_room u e k l d r = (drawn_curve d r (omega (arith, u.on)), omega arith, omega (arith, u.most))
 
 -- a turn brings the walk nearer to the last tick
-pub turn_less : {C T : ℕ} {demand free : List ℕ} {from i to : ℕ} {w : Place} {piece : Piece} → Turn C T demand free from w i → Cuts demand w (get_or free (i + 1) 0) piece
-    → to ≡ piece.stop → 16000 - to < 16000 - from
-turn_less u c e = omega (arith, c.some, c.within, u.most, u.on)
+pub turn_less : {C T : ℕ} {demand free : List ℕ} {from i stop : ℕ} {w : Place} → Turn C T demand free from w i → w.at < stop → stop ≤ get_or free (i + 1) 0
+    → 16000 - stop < 16000 - from
+turn_less u k l = omega (arith, u.most, u.on)
 
 module _ {C T : ℕ} {demand free : List ℕ} {from : ℕ} {w : Place} {i : ℕ} (u : Turn C T demand free from w i) where
   -- before the piece nothing is free
@@ -58,17 +58,15 @@ module _ {C T : ℕ} {demand free : List ℕ} {from : ℕ} {w : Place} {i : ℕ}
 
   -- ---- a whole turn
 
-  pub turn_held : {held₀ left₀ held left out : List ℕ} {n m k s : ℕ} {piece : Piece} {r : Place} → w.at ≡ s → Draws C T demand free held₀ left₀ held left n m from
-      → Cuts demand w (get_or free (i + 1) 0) piece → piece.held ≡ true → Drawn held out k (with_window (take n held) s piece.stop) → Served demand w piece.stop r
-      → Stands C T demand free r (window_behind free i piece.stop) × Draws C T demand free held₀ left₀ out left k m r.at
-  turn_held e d c y p v =
-      (stands_served u c.within (c.holds y) v, rw v.there (draws_held d c.within (c.holds y) (rw e p)))
+  pub turn_held : {held₀ left₀ held left out : List ℕ} {n m k s stop : ℕ} {r : Place} → w.at ≡ s → Draws C T demand free held₀ left₀ held left n m from
+      → stop ≤ get_or free (i + 1) 0 → Holds demand w stop → Drawn held out k (with_window (take n held) s stop) → Served demand w stop r
+      → Stands C T demand free r (window_behind free i r.at) × Draws C T demand free held₀ left₀ out left k m r.at
+  turn_held e d l q p v = (stands_served u l q v, rw v.there (draws_held d l q (rw e p)))
 
-  pub turn_skipped : {held₀ left₀ held left out : List ℕ} {n m k s : ℕ} {piece : Piece} {r : Place} → w.at ≡ s → Draws C T demand free held₀ left₀ held left n m from
-      → Cuts demand w (get_or free (i + 1) 0) piece → piece.held ≡ false → Drawn left out k (with_window (take m left) s piece.stop) → Skipped w piece.stop r
-      → Stands C T demand free r (window_behind free i piece.stop) × Draws C T demand free held₀ left₀ held out n k r.at
-  turn_skipped e d c y p v =
-      (stands_skipped u c.some c.within (c.leaves y) v, rw v.there (draws_left d c.some c.within (c.leaves y) (rw e p)))
+  pub turn_left_over : {held₀ left₀ held left out : List ℕ} {n m k s stop : ℕ} → w.at ≡ s → Draws C T demand free held₀ left₀ held left n m from
+      → w.at < stop → stop ≤ get_or free (i + 1) 0 → Leaves demand w stop → Drawn left out k (with_window (take m left) s stop)
+      → Stands C T demand free (record w { at = stop }) (window_behind free i stop) × Draws C T demand free held₀ left₀ held out n k stop
+  turn_left_over e d k l q p = (stands_left u k l q, draws_left d k l q (rw e p))
 
 -- ---- no free window is left
 
@@ -80,3 +78,9 @@ draws_all {C} {T} {demand} {free} {w = w} g s k d =
   where
     over : (t : ℕ) → w.at ≤ t → cover free t ≡ 0
     over t l = s.offers.gap t l (λ o. absurd (omega arith))
+
+-- ticks of a curve that has room have room
+pub drawn_few : {n : ℕ} {free old new : List ℕ} {f : ℕ → ℕ} → PlainBelow 16000 free → ((t : ℕ) → f t ≤ cover free t) → Drawn old new n f → n ≤ 16000
+drawn_few {n} {new = new} p h d =
+    let over : (t : ℕ) → 16000 ≤ t → cover (take n new) t ≡ 0 = λ t k. omega (arith, d.covers t, h t, p.over t k) in
+    omega (arith, plain_room (take n new) (record { plain = d.plain; over = over }), length-take-le n new d.count)

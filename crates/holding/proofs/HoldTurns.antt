@@ -8,7 +8,7 @@ use Rattle.windows.specs.Windows.{cover, upto}
 use Rattle.windows.proofs.Counts.{upto_rises}
 use Rattle.holding.specs.declared.Place.{Place}
 use Rattle.buffers.specs.Parts.{PlainBelow}
-use Rattle.holding.specs.Pieces.{held_from, first_place, window_behind, Entered, Offered, Holds, Leaves, done, later, spent, Moved, part, whole, Served, Skipped}
+use Rattle.holding.specs.Pieces.{held_from, first_place, window_behind, Entered, Offered, Holds, Leaves, done, later, spent, Moved, part, whole, Served}
 use Rattle.windows.proofs.WindowsAt.{WindowAt, window_at, window_below}
 use Rattle.holding.proofs.HeldBlocks.{upto_still, upto_ones, held_not_free, idle_done, idle_spent, busy_block}
 use Rattle.holding.proofs.Standing.{Wants, wants_first, wants_on, wants_part, wants_whole, wants_comes, Paced, Under, paced_first, paced_enter, paced_on, paced_served, Offers, offers_first, offers_next}
@@ -18,6 +18,9 @@ pub record Given (T : ℕ) (demand free : List ℕ) : Type 0 where
   pub some : 0 < T
   pub wanted : PlainBelow 16000 demand
   pub offered : PlainBelow 16000 free
+
+pub given_by : {T : ℕ} {demand free : List ℕ} → 0 < T → PlainBelow 16000 demand → PlainBelow 16000 free → Given T demand free
+given_by h p q = record { some = h; wanted = p; offered = q }
 
 -- ---- between two turns: every tick below the place's is decided
 
@@ -122,15 +125,14 @@ module _ {C T : ℕ} {demand free : List ℕ} {from : ℕ} {w : Place} {i : ℕ}
   turn_offers : (stop : ℕ) → w.at < stop → stop ≤ get_or free (i + 1) 0 → Offers free (window_behind free i stop) stop
   turn_offers stop k l = offers_next u.given.offered.plain u.offers.even (omega (arith, u.window.pair)) u.low k l
 
-  pub stands_skipped : {stop : ℕ} {r : Place} → w.at < stop → stop ≤ get_or free (i + 1) 0 → Leaves demand w stop → Skipped w stop r
-      → Stands C T demand free r (window_behind free i stop)
-  stands_skipped {stop} {r} k l q p =
+  pub stands_left : {stop : ℕ} → w.at < stop → stop ≤ get_or free (i + 1) 0 → Leaves demand w stop → Stands C T demand free (record w { at = stop }) (window_behind free i stop)
+  stands_left {stop} k l q =
       let idle = turn_left stop q in
       record {
-        most = omega (arith, p.there, u.most);
-        wants = rw (p.demand, p.wanted, p.there) (wants_on u.wants (upto_still (held_from C T demand free) w.at stop (omega arith) idle));
-        paced = rw (p.there, p.until, p.budget) (paced_on u.given.some u.under stop (omega arith) idle);
-        offers = rw p.there (turn_offers stop k l);
+        most = omega (arith, u.most);
+        wants = wants_on u.wants (upto_still (held_from C T demand free) w.at stop (omega arith) idle);
+        paced = paced_on u.given.some u.under stop (omega arith) idle;
+        offers = turn_offers stop k l;
       }
 
   wants_served : {stop : ℕ} {r : Place} → Holds demand w stop → upto (held_from C T demand free) stop + w.at ≡ upto (held_from C T demand free) w.at + stop
@@ -141,7 +143,7 @@ module _ {C T : ℕ} {demand free : List ℕ} {from : ℕ} {w : Place} {i : ℕ}
       rw (d, v) (wants_whole u.given.wanted.plain u.wants (omega (arith, q.pair)) e k)
 
   pub stands_served : {stop : ℕ} {r : Place} → stop ≤ get_or free (i + 1) 0 → Holds demand w stop → Served demand w stop r
-      → Stands C T demand free r (window_behind free i stop)
+      → Stands C T demand free r (window_behind free i r.at)
   stands_served {stop} {r} l q p =
       let e = upto_ones (held_from C T demand free) w.at stop (omega (arith, q.some)) (ticks_held stop l q) in
       record {

@@ -1,5 +1,4 @@
 pub mod HeldBlocks
-pub mod CutPieces
 pub mod Standing
 pub mod HoldTurns
 pub mod DrawnSoFar

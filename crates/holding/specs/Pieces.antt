@@ -1,10 +1,11 @@
 -- How the walk over a server's free ticks goes, piece by piece: cited by the contracts of private functions only.
-use Rattle.std.specs.Prelude.{ℕ, ◌+◌, ◌-◌, ◌%◌, ◌≤◌, ◌<◌, ◌≡◌, List, true, false, length, get_or, leb}
+use Rattle.std.specs.Prelude.{ℕ, ◌+◌, ◌-◌, ◌%◌, ◌≤◌, ◌<◌, ◌≡◌, List, length, get_or, leb}
 use Rattle.windows.specs.Windows.{cover}
 use Rattle.windows.specs.Servers.{held}
 use Rattle.basics.specs.Choice.{pick}
 use Rattle.holding.specs.declared.Place.{Place}
 use Rattle.holding.specs.declared.Piece.{Piece}
+use Rattle.holding.specs.declared.Piece.TheVariants.{Held, Left}
 
 -- the ticks of a free curve that a demand takes, at most C in each period of T ticks, and those that it leaves
 abbrev pub held_from : ℕ → ℕ → List ℕ → List ℕ → ℕ → ℕ
@@ -52,11 +53,10 @@ pub data Leaves (demand : List ℕ) (w : Place) (stop : ℕ) : Type 0 where
   later : w.demand < length demand → stop ≤ w.wanted → Leaves demand w stop
   spent : w.budget ≡ 0 → stop ≤ w.until → Leaves demand w stop
 
-pub record Cuts (demand : List ℕ) (w : Place) (end : ℕ) (r : Piece) : Type 0 where
-  pub some : w.at < r.stop
-  pub within : r.stop ≤ end
-  pub holds : r.held ≡ true → Holds demand w r.stop
-  pub leaves : r.held ≡ false → Leaves demand w r.stop
+-- a piece of a window that ends at `end`: some ticks, that can be held, or can not
+abbrev pub Cuts : List ℕ → Place → ℕ → Piece → Type 0
+Cuts demand w end (Held stop) = (w.at < stop) × (stop ≤ end) × Holds demand w stop
+Cuts demand w end (Left stop) = (w.at < stop) × (stop ≤ end) × Leaves demand w stop
 
 -- a window of demand is left in part, or used up and the next one follows
 pub data Moved (demand : List ℕ) (w : Place) (stop : ℕ) (r : Place) : Type 0 where
@@ -69,10 +69,3 @@ pub record Served (demand : List ℕ) (w : Place) (stop : ℕ) (r : Place) : Typ
   pub until : r.until ≡ w.until
   pub budget : r.budget + stop ≡ w.budget + w.at
   pub moved : Moved demand w stop r
-
-pub record Skipped (w : Place) (stop : ℕ) (r : Place) : Type 0 where
-  pub demand : r.demand ≡ w.demand
-  pub wanted : r.wanted ≡ w.wanted
-  pub there : r.at ≡ stop
-  pub until : r.until ≡ w.until
-  pub budget : r.budget ≡ w.budget

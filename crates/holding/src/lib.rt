@@ -3,9 +3,8 @@
 
 ghost use Rattle.std.specs.Prelude.{◌≡◌, ◌+◌, ◌-◌, ◌%◌, ◌≤◌, ◌<◌, length, get_or};
 ghost use Rattle.buffers.specs.Parts.{PlainBelow, Drawn};
-ghost use Rattle.holding.specs.Pieces.{held_from, left_from, first_place, window_behind, Entered, Offered, Holds, Cuts, Served, Skipped};
+ghost use Rattle.holding.specs.Pieces.{held_from, left_from, first_place, window_behind, Entered, Offered, Holds, Cuts, Served};
 
-use basics::{larger, smaller};
 use buffers::put;
 
 // Where the walk stands: every tick below `at` is decided, the demand not yet served starts at `wanted`, in the window at `demand`; the period
@@ -19,17 +18,16 @@ struct Place {
     budget: u32,
 }
 
-// What comes next of a free window, up to `stop`: ticks that are all held or all left.
-#[derive(Clone, Copy)]
-struct Piece {
-    stop: u32,
-    held: bool,
+// What comes next of a free window, up to an instant: ticks that are all held, or all left.
+enum Piece {
+    Held(u32),
+    Left(u32),
 }
 
-// How many numbers were written.
+// How many numbers were written: of the ticks that a demand takes, and of those that are left.
 #[derive(Clone, Copy)]
 pub struct Counts {
-    pub held: usize,
+    pub taken: usize,
     pub left: usize,
 }
 
@@ -37,20 +35,16 @@ pub struct Counts {
 fn number_at(curve: &[u32], i: usize) -> u32
     ensures { result ≡ get_or curve.now i 0 }
 {
-    if i < curve.len() {
-        return curve[i];
-    }
-    0
+    curve.get(i).copied().unwrap_or(0)
 }
 
 // Where the walk stands at the start of a demand.
 fn start(demand: &[u32]) -> Place
     ensures { result ≡ first_place demand.now }
 {
-    let wanted = number_at(demand, 0);
     Place {
         demand: 0,
-        wanted,
+        wanted: number_at(demand, 0),
         at: 0,
         until: 0,
         budget: 0,
@@ -74,26 +68,15 @@ fn entered(place: Place, at: u32, capacity: u32, period: u32) -> Place
     requires { (0 < period) × (period ≤ 16000) × (at ≤ 16000) × (place.until % period ≡ 0) }
     ensures { Entered capacity period place at result }
 {
-    let demand = place.demand;
-    let wanted = place.wanted;
-    if place.until <= at {
-        let until = period_end(at, place.until, period);
-        return Place {
-            demand,
-            wanted,
-            at,
-            until,
-            budget: capacity,
-        };
+    if at < place.until {
+        return Place { at, ..place };
     }
-    let until = place.until;
-    let budget = place.budget;
+    let until = period_end(at, place.until, period);
     Place {
-        demand,
-        wanted,
         at,
         until,
-        budget,
+        budget: capacity,
+        ..place
     }
 }
 
@@ -102,31 +85,18 @@ fn next_piece(place: Place, demand: &[u32], end: u32) -> Piece
     requires { Offered demand.now place end }
     ensures { Cuts demand.now place end result }
 {
-    let d = place.demand;
-    if demand.len() <= d {
-        return Piece {
-            stop: end,
-            held: false,
-        };
+    if demand.len() <= place.demand {
+        return Piece::Left(end);
     }
     if place.at < place.wanted {
-        let stop = smaller(end, place.wanted);
-        return Piece { stop, held: false };
+        return Piece::Left(end.min(place.wanted));
     }
-    let over = smaller(end, place.until);
+    let over = end.min(place.until);
     if place.budget == 0 {
-        return Piece {
-            stop: over,
-            held: false,
-        };
+        return Piece::Left(over);
     }
-    let wanted = demand[d + 1] - place.wanted;
-    let most = smaller(wanted, place.budget);
-    let n = smaller(most, over - place.at);
-    Piece {
-        stop: place.at + n,
-        held: true,
-    }
+    let wanted = demand[place.demand + 1] - place.wanted;
+    Piece::Held(place.at + wanted.min(place.budget).min(over - place.at))
 }
 
 // The place behind a piece that is held.
@@ -134,39 +104,26 @@ fn served(place: Place, demand: &[u32], stop: u32) -> Place
     requires { Holds demand.now place stop }
     ensures { Served demand.now place stop result }
 {
-    let d = place.demand;
-    let end = demand[d + 1];
-    let n = stop - place.at;
-    let wanted = place.wanted + n;
-    let until = place.until;
-    let budget = place.budget - n;
-    if wanted < end {
+    let ticks = stop - place.at;
+    let wanted = place.wanted + ticks;
+    let budget = place.budget - ticks;
+    if wanted < demand[place.demand + 1] {
         return Place {
-            demand: d,
             wanted,
             at: stop,
-            until,
             budget,
+            ..place
         };
     }
-    let behind = d + 2;
-    let next = number_at(demand, behind);
+    let behind = place.demand + 2;
+    let wanted = number_at(demand, behind);
     Place {
         demand: behind,
-        wanted: next,
+        wanted,
         at: stop,
-        until,
         budget,
+        ..place
     }
-}
-
-// The place behind a piece that is left.
-fn skipped(place: Place, stop: u32) -> Place
-    ensures { Skipped place stop result }
-{
-    let mut next = place;
-    next.at = stop;
-    next
 }
 
 // The index of the free window that comes behind `stop`, of the window at `f` or the next.
@@ -174,10 +131,7 @@ fn next_window(free: &[u32], f: usize, stop: u32) -> usize
     requires { f + 1 < length free.now }
     ensures { result ≡ window_behind free.now f stop }
 {
-    if free[f + 1] <= stop {
-        return f + 2;
-    }
-    f
+    if free[f + 1] <= stop { f + 2 } else { f }
 }
 
 // Writes the ticks of a free curve that a demand takes, at most `capacity` in each period, and those that are left.
@@ -191,26 +145,27 @@ pub fn hold(
 ) -> Counts
     requires { (0 < period) × (period ≤ 16000) × (capacity ≤ 16000) × PlainBelow 16000 demand.now × PlainBelow 16000 free.now
         × (16000 ≤ length held.old) × (16000 ≤ length left.old) }
-    ensures { Drawn held.old held.new result.held (held_from capacity period demand.now free.now)
-        × Drawn left.old left.new result.left (left_from capacity period demand.now free.now) }
+    ensures taken { Drawn held.old held.new result.taken (held_from capacity period demand.now free.now) }
+    ensures left { Drawn left.old left.new result.left (left_from capacity period demand.now free.now) }
+    ensures fits { result.left ≤ 16000 }
 {
     let mut place = start(demand);
-    let mut counts = Counts { held: 0, left: 0 };
+    let mut counts = Counts { taken: 0, left: 0 };
     let mut f: usize = 0;
     while f < free.len() {
-        let at = larger(place.at, free[f]);
-        let end = free[f + 1];
+        let at = place.at.max(free[f]);
         let here = entered(place, at, capacity, period);
-        let piece = next_piece(here, demand, end);
-        let stop = piece.stop;
-        f = next_window(free, f, stop);
-        if piece.held {
-            counts.held = put(held, counts.held, at, stop);
-            place = served(here, demand, stop);
-        } else {
-            counts.left = put(left, counts.left, at, stop);
-            place = skipped(here, stop);
+        match next_piece(here, demand, free[f + 1]) {
+            Piece::Held(stop) => {
+                counts.taken = put(held, counts.taken, at, stop);
+                place = served(here, demand, stop);
+            }
+            Piece::Left(stop) => {
+                counts.left = put(left, counts.left, at, stop);
+                place = Place { at: stop, ..here };
+            }
         }
+        f = next_window(free, f, place.at);
     }
     counts
 }

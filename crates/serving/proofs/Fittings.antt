@@ -4,7 +4,7 @@ use mathlib.Core.Path.{◌≡◌, ap, sym, ◌∙◌}
 use mathlib.Core.List.{List}
 use mathlib.Core.Bool.{true}
 use native.Mathlib.Omega.{arith}
-use lib.ListN.{length, take}
+use lib.ListN.{take}
 use Rattle.windows.specs.Windows.{cover, is_plain, fit}
 use Rattle.windows.proofs.Ticks.{plain_apart, cover_one}
 use Rattle.windows.proofs.Capacity.{held_unlimited}
@@ -12,7 +12,6 @@ use Rattle.windows.proofs.Fitting.{fit_ticks, fit_leaves, fit_served_plain, fit_
 use Rattle.table.specs.declared.Task.{Task}
 use Rattle.schedule.specs.Curves.{demand_of}
 use Rattle.buffers.specs.Parts.{PlainBelow, Curve, Drawn, Wrote}
-use Rattle.buffers.proofs.Fronts.{plain_room}
 use Rattle.demands.specs.Walks.{TaskObeyed}
 use Rattle.demands.proofs.Additions.{plain_higher, demand_plain}
 use Rattle.holding.specs.Pieces.{held_from, left_from}
@@ -58,9 +57,3 @@ module _ {task : Task} {span m n : ℕ} {first part held : List ℕ} (ok : TaskO
       rw w.front at
       (drawn_is (fit (take m part) (take n held)).left (fit_left_plain _ _ demand_below.plain c.curve.plain)
       (left_covers _ _ demand_below.plain c.curve.plain) v)
-
-  -- for which there is room where the supply was
-  pub share_room : {old new : List ℕ} {k : ℕ} → Drawn old new k (left_from 16000 16000 (take m part) (take n held)) → length (take k new) ≤ length held
-  share_room {new = new} {k = k} v =
-      let over : (t : ℕ) → 16000 ≤ t → cover (take k new) t ≡ 0 = λ t g. v.covers t ∙ omega (arith, share_supply.over t g) in
-      omega (arith, plain_room (take k new) (record { plain = v.plain; over = over }), c.room)

@@ -21,8 +21,7 @@ use Rattle.schedule.proofs.BelowEnd.{windows_inside, windows_below, holding_free
 use Rattle.buffers.specs.Parts.{PlainBelow, Curve, Drawn, Wrote, with_window}
 use Rattle.holding.specs.Pieces.{held_from, left_from}
 use Rattle.serving.specs.Wanted.{wanted_by, wanted_of}
-use Rattle.demands.proofs.Additions.{plain_below, plain_higher}
-use Rattle.buffers.proofs.Fronts.{plain_room}
+use Rattle.demands.proofs.Additions.{plain_below}
 
 -- a plain curve that covers the same ticks is the same list
 pub drawn_is : {n : ℕ} {old new : List ℕ} {f : ℕ → ℕ} (l : List ℕ) → is_plain l ≡ true → ((t : ℕ) → cover l t ≡ f t) → Drawn old new n f → Wrote old new n l
@@ -129,7 +128,3 @@ module _ (table : Table) (ok : Obeyed table) (i : ℕ) (h : i < table.servers_n)
 
     pub server_leaves : {n : ℕ} {old new : List ℕ} → Drawn old new n (left_from C T demand free) → Wrote old new n (without H free (held_in table i free))
     server_leaves d = drawn_is (without H free (held_in table i free)) left_plain.plain (λ t. rw e (left_covers t)) d
-
-    -- and there is room for what is left
-    pub leaves_room : {n : ℕ} {old new : List ℕ} → Drawn old new n (left_from C T demand free) → length (take n new) ≤ 16000
-    leaves_room d = rw (server_leaves d).front (plain_room _ (plain_higher H 16000 _ (span_most table ok) left_plain))

@@ -9,7 +9,7 @@ ghost use Rattle.buffers.specs.Parts.{Curve, Wrote};
 ghost use Rattle.demands.specs.Walks.{TaskObeyed};
 ghost use Rattle.serving.specs.Wanted.{wanted_of};
 
-use buffers::{copy, put};
+use buffers::put;
 use demands::releasing::demand;
 use demands::summing::sum_tasks;
 use holding::{Counts, hold};
@@ -18,14 +18,10 @@ use table::{Kind, Table, Task};
 // Writes what a server would hold: its tasks' summed demand, or the whole span if it is periodic.
 fn wanted(table: Table, i: usize, sum: &mut [u32], part: &mut [u32], spare: &mut [u32]) -> usize
     requires { Obeyed table × (i < table.servers_n) × (16000 ≤ length sum.old) × (16000 ≤ length part.old) × (16000 ≤ length spare.old) }
-    ensures { Wrote sum.old sum.new result (wanted_of table i)
-        × (length part.new ≡ length part.old) × (length spare.new ≡ length spare.old) }
+    ensures { Wrote sum.old sum.new result (wanted_of table i) }
 {
-    let server = table.servers[i];
-    let kind = server.kind;
-    let number = (i as u32) + 1;
-    match kind {
-        Kind::Deferrable => sum_tasks(table, number, sum, part, spare),
+    match table.servers[i].kind {
+        Kind::Deferrable => sum_tasks(table, i as u32 + 1, sum, part, spare),
         Kind::Periodic => put(sum, 0, 0, table.span),
     }
 }
@@ -43,10 +39,8 @@ pub fn hold_server(
 ) -> Counts
     requires { Obeyed table × (i < table.servers_n) × Curve free.old n table.span × (16000 ≤ length sum.old) × (16000 ≤ length part.old)
         × (16000 ≤ length held.old) × (16000 ≤ length spare.old) }
-    ensures { Wrote held.old held.new result.held (held_in table i (take n free.old))
-        × Wrote free.old free.new result.left (without table.span (take n free.old) (held_in table i (take n free.old)))
-        × (length sum.new ≡ length sum.old) × (length part.new ≡ length part.old)
-        × (length spare.new ≡ length spare.old) }
+    ensures { Wrote held.old held.new result.taken (held_in table i (take n free.old))
+        × Wrote free.old free.new result.left (without table.span (take n free.old) (held_in table i (take n free.old))) }
 {
     let server = table.servers[i];
     let m = wanted(table, i, sum, part, spare);
@@ -58,20 +52,12 @@ pub fn hold_server(
         held,
         spare,
     );
-    let k = counts.left;
-    copy(&spare[..k], free);
+    free[..counts.left].copy_from_slice(&spare[..counts.left]);
     counts
 }
 
 // More ticks than a span has: a capacity of so many in each period of so many is no limit.
 const ALL: u32 = 16_000;
-
-// How many numbers a task's ticks have, and those that are left to later tasks.
-#[derive(Clone, Copy)]
-pub struct Shares {
-    pub running: usize,
-    pub left: usize,
-}
 
 // Writes the ticks in which a task runs, of the held ticks that the first `n` numbers of `held` are, and leaves there those in which it does not.
 pub fn share(
@@ -82,19 +68,14 @@ pub fn share(
     part: &mut [u32],
     running: &mut [u32],
     spare: &mut [u32],
-) -> Shares
+) -> Counts
     requires { TaskObeyed task × (0 < span) × (span ≤ 16000) × Curve held.old n span × (16000 ≤ length part.old) × (16000 ≤ length running.old)
         × (16000 ≤ length spare.old) }
-    ensures { Wrote running.old running.new result.running (fit (demand_of span task) (take n held.old)).served
-        × Wrote held.old held.new result.left (fit (demand_of span task) (take n held.old)).left
-        × (length part.new ≡ length part.old) × (length spare.new ≡ length spare.old) }
+    ensures { Wrote running.old running.new result.taken (fit (demand_of span task) (take n held.old)).served
+        × Wrote held.old held.new result.left (fit (demand_of span task) (take n held.old)).left }
 {
     let m = demand(task, span, part);
     let counts = hold(ALL, ALL, &part[..m], &held[..n], running, spare);
-    let left = counts.left;
-    copy(&spare[..left], held);
-    Shares {
-        running: counts.held,
-        left,
-    }
+    held[..counts.left].copy_from_slice(&spare[..counts.left]);
+    counts
 }
