@@ -4,7 +4,8 @@ use mathlib.Core.Path.{◌≡◌, refl, ap, ◌∙◌}
 use mathlib.Core.List.{List, [], ◌∷◌}
 use native.Mathlib.Numerals.{add-one}
 use native.Mathlib.Omega.{arith}
-use lib.ListN.{length, get_or, set, length-set}
+use lib.ListN.{length, get_or, take, set, length-set}
+use lib.Seq.{take_all, length-take-le}
 use Rattle.handing.specs.Handing.{each, in_front}
 
 module _ {A B : Type 0} (f : A → B) where
@@ -31,6 +32,8 @@ module _ {A B : Type 0} (f : A → B) where
   listed_next l i old m d b h k p w =
       record { long = length-set m i b ∙ w.long; written = rw (w.written, p, add-one) (front_next l i old d h k) }
 
-  -- all are written
-  pub listed_all : (l : List A) (i n : ℕ) (old m : List B) → i ≤ n → n ≤ i → ListedTo l i old m → m ≡ in_front f n l old
-  listed_all l i n old m h k w = let all : i ≡ n = omega arith in rw all at w.written
+  -- the first n are written
+  pub listed_all : (l : List A) (i n : ℕ) (old m : List B) → i ≡ n → n ≤ length l → ListedTo (take n l) i old m → m ≡ in_front f n l old
+  listed_all l i n old m all h w =
+      let whole : take n (take n l) ≡ take n l = take_all n (take n l) (omega (arith, length-take-le n l h)) in
+      rw whole at (rw all at w.written)

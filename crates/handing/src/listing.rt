@@ -1,12 +1,27 @@
 // The answers of an analysis as plain arrays of numbers.
-ghost use Rattle.std.specs.Prelude.{◌≡◌, ◌≤◌, length};
-ghost use Rattle.handing.specs.Handing.{short_number, outcome_number, response_number, release_number, margin_number, server_answer_row, task_answer_row, server_answers, task_answers, margins};
+ghost use Rattle.std.specs.Prelude.{◌≡◌, ◌*◌, ◌≤◌, ℕ, List, length, refl};
+ghost use Rattle.refusals.specs.Outcomes.{front};
+ghost use Rattle.entries.specs.Entries.{rows};
+ghost use Rattle.handing.specs.Handing.{short_number, margin_number, server_answer_row, task_answer_row, server_answers, task_answers, margins};
 
 use answers::{Response, ServerAnswer, Short, TaskAnswer};
 use entries::placing::put_row;
 
 // What stands for no short period.
 pub const NONE: u32 = 4_294_967_295;
+
+// An answer that is listed as a row of N numbers.
+trait Row<const N: usize>: Copy {
+    // its numbers
+    ghost numbers: { Self → List ℕ };
+
+    // The row.
+    fn row(self) -> [u32; N]
+        ensures { result ≡ numbers self };
+
+    // it is as wide as every other
+    ghost wide: { (answer : Self) → length (numbers answer) ≡ N };
+}
 
 fn short_number(short: Short) -> u32
     ensures { result ≡ short_number short }
@@ -17,34 +32,28 @@ fn short_number(short: Short) -> u32
     }
 }
 
-fn outcome_number(response: Response) -> u32
-    ensures { result ≡ outcome_number response }
-{
-    match response {
-        Response::Worst(_) => 1,
-        Response::Unfinished(_) => 2,
-        Response::None => 0,
+impl Row<2> for ServerAnswer {
+    ghost numbers = { server_answer_row };
+
+    fn row(self) -> [u32; 2] {
+        [self.full, short_number(self.short)]
     }
+
+    ghost wide = { λ answer. refl };
 }
 
-fn response_number(response: Response) -> u32
-    ensures { result ≡ response_number response }
-{
-    match response {
-        Response::Worst(worst) => worst.response,
-        Response::Unfinished(_) => 0,
-        Response::None => 0,
-    }
-}
+impl Row<3> for TaskAnswer {
+    ghost numbers = { task_answer_row };
 
-fn release_number(response: Response) -> u32
-    ensures { result ≡ release_number response }
-{
-    match response {
-        Response::Worst(worst) => worst.release,
-        Response::Unfinished(release) => release,
-        Response::None => 0,
+    fn row(self) -> [u32; 3] {
+        match self.response {
+            Response::Worst(worst) => [1, worst.response, worst.release],
+            Response::Unfinished(release) => [2, 0, release],
+            Response::None => [0, 0, 0],
+        }
     }
+
+    ghost wide = { λ answer. refl };
 }
 
 fn margin_number(response: Response) -> i32
@@ -57,22 +66,14 @@ fn margin_number(response: Response) -> i32
     }
 }
 
-fn server_numbers(answer: ServerAnswer) -> [u32; 2]
-    ensures { result ≡ server_answer_row answer }
+// Lists answers, a row for each.
+fn list_rows<const N: usize, T: Row<N>>(answers: &[T], out: &mut [u32])
+    requires { length answers.now * N ≤ length out.old }
+    ensures { out.new ≡ front (rows T.numbers answers.now) out.old }
 {
-    let short = answer.short;
-    let first = short_number(short);
-    [answer.full, first]
-}
-
-fn task_numbers(answer: TaskAnswer) -> [u32; 3]
-    ensures { result ≡ task_answer_row answer }
-{
-    let said = answer.response;
-    let outcome = outcome_number(said);
-    let response = response_number(said);
-    let release = release_number(said);
-    [outcome, response, release]
+    for (i, answer) in answers.iter().enumerate() {
+        put_row(&answer.row(), out, N * i);
+    }
 }
 
 // Lists what is answered of the first n servers, a row for each.
@@ -80,14 +81,7 @@ pub fn list_servers(servers: [ServerAnswer; 16], n: usize, out: &mut [u32])
     requires { (length servers ≡ 16) × (n ≤ 16) × (32 ≤ length out.old) }
     ensures { out.new ≡ server_answers n servers out.old }
 {
-    let mut i: usize = 0;
-    while i < n {
-        let answer = servers[i];
-        let row = server_numbers(answer);
-        let at = 2 * i;
-        put_row(&row, out, at);
-        i += 1;
-    }
+    list_rows(&servers[..n], out);
 }
 
 // Lists what is answered of the first n tasks, a row for each, but for the margins.
@@ -95,14 +89,7 @@ pub fn list_tasks(tasks: [TaskAnswer; 64], n: usize, out: &mut [u32])
     requires { (length tasks ≡ 64) × (n ≤ 64) × (192 ≤ length out.old) }
     ensures { out.new ≡ task_answers n tasks out.old }
 {
-    let mut i: usize = 0;
-    while i < n {
-        let answer = tasks[i];
-        let row = task_numbers(answer);
-        let at = 3 * i;
-        put_row(&row, out, at);
-        i += 1;
-    }
+    list_rows(&tasks[..n], out);
 }
 
 // Lists the margins of the first n tasks.
@@ -110,11 +97,7 @@ pub fn list_margins(tasks: [TaskAnswer; 64], n: usize, margin: &mut [i32])
     requires { (length tasks ≡ 64) × (n ≤ 64) × (n ≤ length margin.old) }
     ensures { margin.new ≡ margins n tasks margin.old }
 {
-    let mut j: usize = 0;
-    while j < n {
-        let answer = tasks[j];
-        let said = answer.response;
-        margin[j] = margin_number(said);
-        j += 1;
+    for (j, task) in tasks[..n].iter().enumerate() {
+        margin[j] = margin_number(task.response);
     }
 }

@@ -59,6 +59,11 @@ response_fields None = 9 ∷ none_word
 unfoldable pub task_line : ℕ → TaskAnswer → List ℕ
 task_line number answer = task_word ++ (field number ++ (response_fields answer.response ++ feed))
 
+-- the lines of all entries of a list, the first of which has the place i; a number is one more than its place
+unfoldable pub numbered : {A : Type 0} → (ℕ → A → List ℕ) → List A → ℕ → List ℕ
+numbered line [] i = []
+numbered line (a ∷ answers) i = line (suc i) a ++ numbered line answers (suc i)
+
 -- the k lines from place i on; a number is one more than its place
 unfoldable pub listed : {A : Type 0} → (ℕ → A → List ℕ) → A → List A → ℕ → ℕ → List ℕ
 listed line none answers zero i = []

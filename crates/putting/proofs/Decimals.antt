@@ -1,5 +1,5 @@
 -- Decimal digits: the last one behind those of the tenth, how many there are, and that they are read back as the number. Assumes nothing.
-use Prim.Native.Nat.{ℕ, zero, suc, ◌+◌, ◌/◌, ◌%◌, ◌^◌, ◌≤◌, ◌<◌, min}
+use Prim.Native.Nat.{ℕ, zero, suc, ◌+◌, ◌/◌, ◌%◌, ◌*◌, ◌^◌, ◌≤◌, ◌<◌, min, max}
 use mathlib.Core.Path.{◌≡◌, refl, sym, ap, ◌∙◌}
 use mathlib.Core.List.{List, [], ◌∷◌, ◌++◌, append_assoc, append-nil}
 use mathlib.Core.Bool.{true, false, and-false}
@@ -67,6 +67,30 @@ decimal_below k n h = digits_length (suc n) k n h
 -- a number of ten or more has one digit more than its tenth
 pub decimal_tenth : (n : ℕ) → 10 ≤ n → length (decimal n) ≡ length (decimal (n / 10)) + 1
 decimal_tenth n h = ap length (decimal_more n h) ∙ length-append (decimal (n / 10)) ((48 + n % 10) ∷ [])
+
+-- a power of ten is above zero
+ten_power : (k : ℕ) → 1 ≤ 10 ^ k
+ten_power zero = omega arith
+ten_power (suc k) = omega (arith, ten_power k)
+
+-- a power of ten is above its exponent
+below_power : (k : ℕ) → k < 10 ^ k
+below_power zero = omega arith
+below_power (suc k) = omega (arith, below_power k)
+
+-- from a power of ten on there are more than its exponent
+digits_above : (j k n : ℕ) → n < j → 10 ^ k ≤ n → suc k ≤ length (digits j n)
+unfolding digits
+digits_above zero k n p h = absurd (omega arith)
+digits_above (suc j) zero n p h = go (dec_lt n 10)
+  where
+    go : Dec (n < 10) → 1 ≤ length (digits (suc j) n)
+    go (yes q) = rw (digits_small j n q) (omega arith)
+    go (no q) = rw (digits_more j n (omega (arith, q)), length-append (digits j (n / 10)) ((48 + n % 10) ∷ [])) (omega arith)
+digits_above (suc j) (suc k) n p h =
+    let above = ten_power k in
+    rw (digits_more j n (omega arith), length-append (digits j (n / 10)) ((48 + n % 10) ∷ []))
+    (omega (arith, digits_above j k (n / 10) (omega arith) (omega arith)))
 
 -- a `u32` has at most ten
 pub decimal_length : (n : ℕ) → Fits w32 n → length (decimal n) ≤ 10
@@ -160,6 +184,14 @@ decimal_reads n h =
 -- it has a digit
 pub decimal_some : (n : ℕ) → 1 ≤ length (decimal n)
 decimal_some n = let w = digits_written (suc n) n (omega arith) in omega (arith, ap length w.is)
+
+-- there is one more than the exponent of the greatest power of ten that is not above the number, or 1 where the number is 0
+pub decimal_exponent : (k n : ℕ) → 10 ^ k ≤ max n 1 → max n 1 < 10 * 10 ^ k → length (decimal n) ≡ k + 1
+decimal_exponent k n h b = go (dec_lt 0 n)
+  where
+    go : Dec (0 < n) → length (decimal n) ≡ k + 1
+    go (yes p) = omega (arith, digits_above (suc n) k n (omega arith) (omega (arith, p)), decimal_below k n (omega (arith, p)))
+    go (no p) = omega (arith, p, decimal_some n, decimal_below 0 n (omega (arith, p)), below_power k)
 
 -- it is no dash
 pub decimal_word : (n : ℕ) → same_bytes (decimal n) dash ≡ false

@@ -1,12 +1,11 @@
 -- Bytes put one behind the other are the stores of all of them in a row. Assumes nothing.
-use Prim.Native.Nat.{ℕ, suc, ◌+◌, ◌≤◌, ◌<◌}
+use Prim.Native.Nat.{ℕ, suc, ◌+◌, ◌≤◌}
 use mathlib.Core.Path.{◌≡◌, refl, sym, ap, ◌∙◌}
 use mathlib.Core.List.{List, [], ◌∷◌, ◌++◌, append_assoc, append-nil}
 use native.Mathlib.Nat.{add-zero}
 use native.Mathlib.Omega.{arith}
-use native.Mathlib.Numerals.{add-one}
-use lib.ListN.{length, take, drop, set, get_or, length-append, length-drop, drop_of_length-le}
-use lib.Seq.{sets, sets-eq, length-sets, set_out, length-take-le, take_all, take-suc, drop-drop}
+use lib.ListN.{length, take, drop, set, length-append, length-drop, drop_of_length-le}
+use lib.Seq.{sets, sets-eq, length-sets, length-take-le, take_all, drop-drop}
 use Rattle.putting.specs.Puts.{Put}
 
 -- ---- stores in a row
@@ -37,14 +36,6 @@ sets_append old (x ∷ a) b n m e = sets_append (set old n x) a b (suc n) m (ome
 pub put_none : (old : List ℕ) (n : ℕ) → Put old old n [] n
 put_none old n = rw (add-zero n) at (stored_put old [] n)
 
--- a byte, where it fits
-pub put_one : (old : List ℕ) (n byte : ℕ) → Put old (set old n byte) n (byte ∷ []) (n + 1)
-put_one old n byte = stored_put old (byte ∷ []) n
-
--- a byte that has no room
-pub put_beyond : (old : List ℕ) (n byte : ℕ) → length old ≤ n → Put old old n (byte ∷ []) (n + 1)
-put_beyond old n byte h = rw (set_out old n byte h) at (put_one old n byte)
-
 -- bytes, and more behind them
 pub put_more : {old mid new a b : List ℕ} {n m r : ℕ} → Put old mid n a m → Put mid new m b r → Put old new n (a ++ b) r
 put_more {old} {mid} {new} {a} {b} {n} {m} {r} v w =
@@ -59,24 +50,6 @@ put_more {old} {mid} {new} {a} {b} {n} {m} {r} v w =
           ∙ (stored_put old (a ++ b) n).fits (omega (arith, c))
           ∙ ap (λ (k : ℕ). take n old ++ ((a ++ b) ++ drop k old)) (sym c);
     }
-
--- ---- what is put so far
-
--- of the bytes `all`, to be put behind n, `rest` is still to come, behind m: once it is put too, all is
-pub record Begun (old now : List ℕ) (n m : ℕ) (rest all : List ℕ) : Type 0 where
-  pub ends : (new : List ℕ) (r : ℕ) → Put now new m rest r → Put old new n all r
-
--- at first all is still to come
-pub begun_none : (old : List ℕ) (n : ℕ) (all : List ℕ) → Begun old old n n all all
-begun_none old n all = record { ends = λ new r w. w }
-
--- a line is put
-pub begun_next : {old mid now line rest all : List ℕ} {n m k : ℕ} → Begun old mid n m (line ++ rest) all → Put mid now m line k → Begun old now n k rest all
-begun_next b v = record { ends = λ new r w. b.ends new r (put_more v w) }
-
--- in the end all is put
-pub begun_all : {old now all : List ℕ} {n m : ℕ} → Begun old now n m [] all → Put old now n all m
-begun_all {now = now} {m = m} b = b.ends now m (put_none now m)
 
 -- ---- the part of a buffer behind what is there
 
@@ -96,18 +69,3 @@ put_behind old at k {part} {bytes} {r} h w =
           ap (λ (l : List ℕ). take at old ++ l)
           (v.fits (omega (arith, l)) ∙ ap (λ (l : List ℕ). bytes ++ l) (drop-drop r at old));
     })
-
--- ---- a word, byte by byte
-
--- where bytes of it are left, one is within the word's room
-pub word_room : {old mid : List ℕ} (word : List ℕ) {n m : ℕ} (i : ℕ) → i < length word → Put old mid n (take i word) m → m + 1 ≤ n + length word
-word_room word i h v = omega (arith, v.count, length-take-le i word (omega arith))
-
--- one byte of it more
-pub word_next : {old mid new : List ℕ} (word : List ℕ) {n m r : ℕ} (i : ℕ) → i < length word → Put old mid n (take i word) m
-    → Put mid new m (get_or word i 0 ∷ []) r → Put old new n (take (i + 1) word) r
-word_next word i h v w = rw (add-one, take-suc word i 0 h) (put_more v w)
-
--- all of it
-pub word_all : {old new : List ℕ} (word : List ℕ) {n r : ℕ} (i : ℕ) → length word ≤ i → Put old new n (take i word) r → Put old new n word r
-word_all word i h w = rw (take_all i word h) at w

@@ -6,7 +6,7 @@ use native.Mathlib.Omega.{arith}
 use lib.ListN.{length}
 use Rattle.table.specs.Places.{Obeyed, Same}
 use Rattle.table.specs.declared.Table.{Table}
-use Rattle.refusals.specs.Outcomes.{front, Leaves}
+use Rattle.refusals.specs.Outcomes.{Leaves}
 use Rattle.refusals.specs.declared.Refusal.{Refusal}
 use Rattle.refusals.specs.declared.Written.{Written}
 use Rattle.refusals.specs.declared.Written.TheVariants as written
@@ -15,7 +15,7 @@ use Rattle.reading.proofs.Accepted.{accepted_obeyed}
 use Rattle.reading.specs.declared.Answer.{Answer}
 use Rattle.reading.specs.declared.Answer.TheVariants.{Accepted, Refused}
 use Rattle.putting.specs.Rooms.{in_room}
-use Rattle.putting.proofs.Rooms.{room_counted, room_front, room_not_refused}
+use Rattle.putting.proofs.Rooms.{room_not_refused}
 use Rattle.printing.specs.Report.{refused_line}
 use Rattle.writing.specs.Text.{text_of}
 use Rattle.writing.specs.Writing.{Writes}
@@ -50,17 +50,8 @@ module _ (table : Table) (out : List ℕ) {r : Written} {after : List ℕ} (o : 
   leaves : Leaves (in_room (text_of table) out) (text_of table) out r after
   leaves = record { answer_is = rw o.rules at w.answer_is; buffer = rw o.rules at w.buffer }
 
-  counted : r ≡ written.Count (length (text_of table))
-  counted = room_counted (text_of table) out fits leaves
-
-  pub obeyed_count : {n : ℕ} → r ≡ written.Count n → n ≡ length (text_of table)
-  obeyed_count e = let c = counted in cc
-
   pub obeyed_not_refused : (refusal : Refusal) → r ≡ written.Refused refusal → ⊥
   obeyed_not_refused = room_not_refused (text_of table) out fits leaves
-
-  pub obeyed_front : after ≡ front (text_of table) out
-  obeyed_front = room_front (text_of table) out fits leaves
 
 -- an accepted text is written back with so many bytes at the most
 pub accepted_most : (text : List ℕ) → (reading_of text).answer ≡ Accepted → length (text_of (reading_of text).table) ≤ 2603

@@ -17,8 +17,7 @@ fn put_table(table: Table, out: &mut [u8]) -> usize
     requires { Obeyed table × (2603 ≤ length out.old) }
     ensures { (result ≡ length (text_of table)) × (out.new ≡ front (text_of table) out.old) }
 {
-    let written = writing::write(table, out);
-    match written {
+    match writing::write(table, out) {
         Written::Count(n) => n,
         Written::Refused(_) => 0, // not reached
     }
@@ -31,10 +30,8 @@ pub fn rewrite(text: &[u8], out: &mut [u8]) -> usize
         × (out.new ≡ front (rewritten_of text.now) out.old) × (result ≤ 2603) }
 {
     let read = reading::read(text);
-    let answer = read.answer;
-    let table = read.table;
-    match answer {
-        Answer::Accepted => put_table(table, out),
-        Answer::Refused(refusal) => put_refused(out, 0, refusal),
+    match read.answer {
+        Answer::Accepted => put_table(read.table, out),
+        Answer::Refused(refusal) => put_refused(out, refusal),
     }
 }

@@ -1,74 +1,104 @@
-// The line writer: one line of a table's text at the front of what it is lent. Each function answers how many bytes it has put.
-ghost use Rattle.std.specs.Prelude.{◌∷◌, ◌++◌, ◌≤◌};
-ghost use Rattle.table.specs.declared.Release.TheVariants.{Once, Every};
-ghost use Rattle.fields.specs.Fields.{server_word};
+// The line writer: one line of a table's text, how many bytes it has, and how it is put at the front of what is lent.
+ghost use Rattle.std.specs.Prelude.{◌≡◌, ◌+◌, ◌++◌, ◌≤◌, ℕ, List, length};
 ghost use Rattle.putting.specs.Puts.{Put};
-ghost use Rattle.putting.specs.Decimal.{feed};
-ghost use Rattle.writing.specs.Text.{joined, kind_word, released_fields, span_line, server_line, task_line};
+ghost use Rattle.putting.specs.Decimal.{decimal, feed};
+ghost use Rattle.writing.specs.Text.{kind_word, span_line, server_line, task_line};
 
-use putting::{put_byte, put_field, put_labelled, put_word};
+use putting::{Page, number_length};
 use table::{Kind, Release, Server, Task};
+
+// What has a line in the text: a server or a task.
+pub trait Line: Copy {
+    // its line
+    ghost line: { Self → List ℕ };
+
+    // How many bytes the line has with its line feed.
+    fn length(self) -> usize
+        ensures counted { result ≡ length (line self ++ feed) }
+        ensures most { result ≤ 61 };
+
+    // Puts the line, and answers how many bytes it has put.
+    fn put(self, out: &mut [u8]) -> usize
+        ensures { Put out.old out.new 0 (line self ++ feed) result };
+}
+
+// How many bytes a number has with the byte behind it.
+pub fn field_length(value: u32) -> usize
+    ensures { (result ≡ length (decimal value) + 1) × (result ≤ 11) }
+{
+    number_length(value) + 1
+}
+
+// The word of a server's kind.
+fn word(kind: Kind) -> &'static [u8]
+    ensures { result.now ≡ kind_word kind }
+{
+    match kind {
+        Kind::Deferrable => b"deferrable",
+        Kind::Periodic => b"periodic",
+    }
+}
 
 // Puts the line of the span.
 pub fn put_span(out: &mut [u8], span: u32) -> usize
     ensures { Put out.old out.new 0 (span_line span ++ feed) result }
 {
-    let n = put_labelled(out, 0, b"span", span);
-    put_byte(out, n, b'\n')
+    let mut page = Page::new(out);
+    page.put_labelled(b"span", span);
+    page.put_byte(b'\n');
+    page.count
 }
 
-// Puts `server` and the kind of a server.
-fn put_kind(out: &mut [u8], kind: Kind) -> usize
-    ensures { Put out.old out.new 0 (server_word ++ (9 ∷ kind_word kind)) result × (result ≤ 17) }
-{
-    match kind {
-        Kind::Deferrable => put_word(out, 0, b"server\tdeferrable"),
-        Kind::Periodic => put_word(out, 0, b"server\tperiodic"),
+impl Line for Server {
+    ghost line = { server_line };
+
+    fn length(self) -> usize {
+        8 + word(self.kind).len() + field_length(self.capacity) + field_length(self.period)
+    }
+
+    fn put(self, out: &mut [u8]) -> usize {
+        let mut page = Page::new(out);
+        page.put_word(b"server\t");
+        page.put_word(word(self.kind));
+        page.put_field(self.capacity);
+        page.put_field(self.period);
+        page.put_byte(b'\n');
+        page.count
     }
 }
 
-// Puts the line of a server.
-pub fn put_server(out: &mut [u8], server: Server) -> usize
-    ensures { Put out.old out.new 0 (server_line server ++ feed) result }
-{
-    let kind = server.kind;
-    let n1 = put_kind(out, kind);
-    let n2 = put_field(out, n1, server.capacity);
-    let n3 = put_field(out, n2, server.period);
-    put_byte(out, n3, b'\n')
-}
+impl Line for Task {
+    ghost line = { task_line };
 
-// Puts the line of a task that is released once.
-fn put_once(out: &mut [u8], task: Task, instant: u32) -> usize
-    ensures { Put out.old out.new 0 (joined (released_fields (Once instant) task.server task.work task.deadline) ++ feed) result }
-{
-    let n1 = put_labelled(out, 0, b"once", task.server);
-    let n2 = put_field(out, n1, task.work);
-    let n3 = put_field(out, n2, instant);
-    let n4 = put_field(out, n3, task.deadline);
-    put_byte(out, n4, b'\n')
-}
+    fn length(self) -> usize {
+        let shared = field_length(self.server)
+            + field_length(self.work)
+            + field_length(self.deadline);
+        match self.release {
+            Release::Once(instant) => 5 + shared + field_length(instant),
+            Release::Every(offset, period) => {
+                6 + shared + field_length(offset) + field_length(period)
+            }
+        }
+    }
 
-// Puts the line of a task that is released every period.
-fn put_every(out: &mut [u8], task: Task, offset: u32, period: u32) -> usize
-    ensures { Put out.old out.new 0
-        (joined (released_fields (Every offset period) task.server task.work task.deadline) ++ feed) result }
-{
-    let n1 = put_labelled(out, 0, b"every", task.server);
-    let n2 = put_field(out, n1, task.work);
-    let n3 = put_field(out, n2, offset);
-    let n4 = put_field(out, n3, period);
-    let n5 = put_field(out, n4, task.deadline);
-    put_byte(out, n5, b'\n')
-}
-
-// Puts the line of a task.
-pub fn put_task(out: &mut [u8], task: Task) -> usize
-    ensures { Put out.old out.new 0 (task_line task ++ feed) result }
-{
-    let release = task.release;
-    match release {
-        Release::Once(instant) => put_once(out, task, instant),
-        Release::Every(offset, period) => put_every(out, task, offset, period),
+    fn put(self, out: &mut [u8]) -> usize {
+        let mut page = Page::new(out);
+        match self.release {
+            Release::Once(instant) => {
+                page.put_labelled(b"once", self.server);
+                page.put_field(self.work);
+                page.put_field(instant);
+            }
+            Release::Every(offset, period) => {
+                page.put_labelled(b"every", self.server);
+                page.put_field(self.work);
+                page.put_field(offset);
+                page.put_field(period);
+            }
+        }
+        page.put_field(self.deadline);
+        page.put_byte(b'\n');
+        page.count
     }
 }
