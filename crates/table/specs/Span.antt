@@ -1,13 +1,11 @@
 -- Document 01, 'The table text': "`-` in `span` means the least common multiple of all server periods and all `every` periods".
-use Rattle.std.specs.Prelude.{ℕ, zero, suc, ◌%◌, List, [], ◌∷◌, ◌++◌, Bool, eqb}
+use Rattle.std.specs.Prelude.{ℕ, zero, suc, ◌%◌, List, [], ◌∷◌, ◌++◌, Bool, eqb, Option, Some, None}
 use Rattle.basics.specs.Choice.{pick}
 use Rattle.table.specs.Rules.{all}
 use Rattle.table.specs.declared.Server.{Server}
 use Rattle.table.specs.declared.Task.{Task}
 use Rattle.table.specs.declared.Release.{Release}
 use Rattle.table.specs.declared.Release.TheVariants.{Once, Every}
-use Rattle.table.specs.declared.Span.{Span}
-use Rattle.table.specs.declared.Span.TheVariants.{Ticks, Over}
 
 unfoldable pub server_periods : List Server → List ℕ
 server_periods [] = []
@@ -29,10 +27,10 @@ abbrev pub is_multiple : List ℕ → ℕ → Bool
 is_multiple periods n = all (λ p. eqb (n % p) 0) periods
 
 -- the first common multiple, of the k numbers from n on
-unfoldable pub first_multiple : List ℕ → ℕ → ℕ → Span
-first_multiple periods zero n = Over
-first_multiple periods (suc k) n = pick (is_multiple periods n) (Ticks n) (first_multiple periods k (suc n))
+unfoldable pub first_multiple : List ℕ → ℕ → ℕ → Option ℕ
+first_multiple periods zero n = None
+first_multiple periods (suc k) n = pick (is_multiple periods n) (Some n) (first_multiple periods k (suc n))
 
--- the least common multiple above 0, or that it is above 16,000
-abbrev pub span_of : List ℕ → Span
+-- the least common multiple above 0, or none if it is above 16,000
+abbrev pub span_of : List ℕ → Option ℕ
 span_of periods = first_multiple periods 16000 1

@@ -48,13 +48,6 @@ pub struct Table {
     pub tasks: [Task; 64],
 }
 
-// The span that all periods give.
-#[derive(Clone, Copy)]
-pub enum Span {
-    Ticks(u32),
-    Over,
-}
-
 // Whether a table obeys the rules: its counts, the ranges of its numbers, no capacity above its period, each task's server there.
 pub fn obeys_rules(table: Table) -> bool
     ensures { result ≡ obeys table }

@@ -6,29 +6,29 @@ ghost use Rattle.table.specs.Multiples.{InSpan, JoinsAll};
 
 use crate::euclid::lcm;
 use crate::ranges::in_ticks;
-use crate::{Release, Span, Table};
+use crate::{Release, Table};
 use basics::stored;
 
-// The least common multiple of a span and a period, or that it is above 16,000.
-fn joined(span: Span, period: u32) -> Span
+// The least common multiple of a span and a period, if it is 16,000 at most.
+fn joined(span: Option<u32>, period: u32) -> Option<u32>
     requires { InSpan span }
     ensures { JoinsAll span (period ∷ []) result }
 {
-    let Span::Ticks(ticks) = span else {
-        return Span::Over;
+    let Some(ticks) = span else {
+        return None;
     };
     if !in_ticks(period) {
-        return Span::Over;
+        return None;
     }
     let m = lcm(ticks, period);
     if 16000 < m {
-        return Span::Over;
+        return None;
     }
-    Span::Ticks(m)
+    Some(m)
 }
 
 // The span with the period of a task, if it is released every period.
-fn with_release(span: Span, release: Release) -> Span
+fn with_release(span: Option<u32>, release: Release) -> Option<u32>
     requires { InSpan span }
     ensures { JoinsAll span (every_period release []) result }
 {
@@ -39,7 +39,7 @@ fn with_release(span: Span, release: Release) -> Span
 }
 
 // The span with the periods of all servers.
-fn with_servers(table: Table, span: Span) -> Span
+fn with_servers(table: Table, span: Option<u32>) -> Option<u32>
     requires { InSpan span }
     ensures { JoinsAll span (server_periods (servers_of table)) result }
 {
@@ -55,7 +55,7 @@ fn with_servers(table: Table, span: Span) -> Span
 }
 
 // The span with the periods of all tasks that have one.
-fn with_tasks(table: Table, span: Span) -> Span
+fn with_tasks(table: Table, span: Option<u32>) -> Option<u32>
     requires { InSpan span }
     ensures { JoinsAll span (task_periods (tasks_of table)) result }
 {
@@ -71,10 +71,10 @@ fn with_tasks(table: Table, span: Span) -> Span
     joint
 }
 
-// The least common multiple of all server periods and all `every` periods, or that it is above 16,000. No number divides by a period of 0.
-pub fn common_span(table: Table) -> Span
+// The least common multiple of all server periods and all `every` periods, if it is 16,000 at most. No number divides by a period of 0.
+pub fn common_span(table: Table) -> Option<u32>
     ensures { result ≡ span_of (periods_of (servers_of table) (tasks_of table)) }
 {
-    let span = with_servers(table, Span::Ticks(1));
+    let span = with_servers(table, Some(1));
     with_tasks(table, span)
 }

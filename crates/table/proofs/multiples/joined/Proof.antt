@@ -12,8 +12,8 @@ use Rattle.table.proofs.multiples.joined.Statement.{statement}
 use Rattle.table.proofs.multiples.joined.Tie as tie
 
 -- the ticks of the span
-in_span : (c : tie.In-Ticks) → (0 < c.in-Ticks.ticks) × (c.in-Ticks.ticks ≤ 16000)
-in_span c = rw c.in-Ticks.is at c.requires
+in_span : (c : tie.In-Some) → (0 < c.in-Some.ticks) × (c.in-Some.ticks ≤ 16000)
+in_span c = rw c.in-Some.is at c.requires
 
 -- the period is one of 1 to 16,000
 in_range_lem : (c : tie.Else-not-in_ticks) → (0 < c.args.period) × (c.args.period ≤ 16000)
@@ -35,7 +35,7 @@ in-ticks-requires : tie.Need-in_ticks-requires
 in-ticks-requires c κs = search rules
 
 returns-2 : tie.Need-returns-then-not-in_ticks
-returns-2 c = rw c.in-Ticks.is (joins_outside _ _ (sym c.in_ticks.ensures ∙ c.if-not-in_ticks.true))
+returns-2 c = rw c.in-Some.is (joins_outside _ _ (sym c.in_ticks.ensures ∙ c.if-not-in_ticks.true))
 
 lcm-requires : tie.Need-lcm-m-requires
 lcm-requires c κs =
@@ -44,10 +44,10 @@ lcm-requires c κs =
     (a.0, a.1, b.0, b.1)
 
 returns-3 : tie.Need-returns-then-m-gt16000
-returns-3 c = rw c.in-Ticks.is (joins_large _ _ _ c.lcm-m.ensures c.if-m-gt16000.true)
+returns-3 c = rw c.in-Some.is (joins_large _ _ _ c.lcm-m.ensures c.if-m-gt16000.true)
 
 returns-4 : tie.Need-returns
-returns-4 c = rw c.in-Ticks.is (joins_lcm _ _ _ c.lcm-m.ensures c.if-m-gt16000.false)
+returns-4 c = rw c.in-Some.is (joins_lcm _ _ _ c.lcm-m.ensures c.if-m-gt16000.false)
 
 pub joined_spec : {M : Type 1} → statement M
 joined_spec =
