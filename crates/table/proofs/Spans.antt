@@ -1,25 +1,25 @@
 -- The span that a list of periods gives, pair by pair, is their least common multiple. Assumes nothing.
 use Prim.Native.Nat.{ℕ, zero, suc, ◌+◌, ◌%◌, ◌≤◌, ◌<◌, ◌∣◌}
-use mathlib.Core.Path.{◌≡◌, refl, sym, ap, ◌∙◌}
+use mathlib.Core.Path.{◌≡◌, refl, sym, ◌∙◌}
 use mathlib.Core.List.{List, [], ◌∷◌, ◌++◌, append_assoc, append-nil}
 use mathlib.Core.Bool.{Bool, true, false, true≢false}
 use native.Mathlib.Omega.{arith}
 use native.Mathlib.Nat.{dvd_refl, dvd_trans, le_of_dvd, pos_of_dvd_of_pos, mod-eq-zero_of_dvd, dvd_of_mod-eq-zero}
 use native.Mathlib.Decide.{ℕ_discrete}
-use lib.ListN.{length, get_or, take, drop}
+use lib.ListN.{length, get_or, take, drop, take-append-drop}
+use lib.Seq.{drop-cons}
+use Rattle.std.proofs.Common.{map-id}
+use Rattle.std.proofs.lemmas.Iterator.{YieldsList}
+use Rattle.std.proofs.lemmas.Iterator.Consumers.{YieldsList-so_far, YieldsList-turn, YieldsList-end}
+use Rattle.std.specs.Iterator.{Yields}
 use lib.Dec.{eqb}
 use borrow.Author.Tests.{eqb-true, le-leb}
 use Rattle.basics.specs.Choice.{pick}
 use Rattle.basics.proofs.Tests.{and_left, and_right}
-use Rattle.table.specs.Rules.{all, in_ticks, no_server, no_task}
+use Rattle.table.specs.Rules.{all, in_ticks}
 use Rattle.table.specs.Euclid.{IsLcm}
-use Rattle.table.specs.Span.{is_multiple, first_multiple, span_of, server_periods, every_period, task_periods}
-use Rattle.table.proofs.Entries.{entry_next}
+use Rattle.table.specs.Span.{is_multiple, first_multiple, span_of}
 use Rattle.table.specs.Multiples.{Divide, Spans, InSpan, JoinsAll}
-use Rattle.table.specs.declared.Server.{Server}
-use Rattle.table.specs.declared.Task.{Task}
-use Rattle.table.specs.declared.Release.{Release}
-use Rattle.table.specs.declared.Release.TheVariants.{Once, Every}
 use Rattle.std.specs.Prelude.{Option, Some, None}
 
 -- ---- a period more
@@ -119,41 +119,24 @@ module _ (ps : List ℕ) where
   pub joined_all : (r : Option ℕ) → JoinsAll (Some 1) ps r → r ≡ span_of ps
   joined_all r j = sym (spans_all r (j.leads ps [] (rw (append-nil ps) spans_start)))
 
--- ---- one period after the other: of the periods ps, the periods qs are still to come
+split_at : (all : List ℕ) (n p : ℕ) (front : List ℕ) → front ≡ take n all → n < length all → p ≡ get_or all n p → front ++ (p ∷ drop (suc n) all) ≡ all
+split_at all n p front f l g = rw (f, g, ← drop-cons all n p l) (take-append-drop n all)
 
-pub record Passing (span : Option ℕ) (ps qs : List ℕ) (joint : Option ℕ) : Type 0 where
-  pub bounded : InSpan joint
-  pub leads : (whole ahead : List ℕ) → Spans whole (ps ++ ahead) span → Spans whole (qs ++ ahead) joint
+-- ---- a walk over all periods, which has passed some of them
 
-pub passing_start : (span : Option ℕ) (ps : List ℕ) → InSpan span → Passing span ps ps span
-passing_start span ps b = record { bounded = b; leads = λ whole ahead s. s }
+module _ {S : Type 0} {steps : S → Option ℕ → S → Type 0} {s : S} {all passed : List ℕ} {m : ℕ} {r : Option ℕ} (t u : S) (j : JoinsAll (Some 1) passed (Some m)) (y : Yields steps s passed t) (e : steps t r u) where
+  -- at one that has no multiple
+  pub span_stops : {p : ℕ} → r ≡ Some p → JoinsAll (Some m) (p ∷ []) None → YieldsList steps (λ p. p) s all → None ≡ span_of all
+  span_stops {p} is n road =
+      let front : passed ≡ take (length passed) all = sym (map-id passed) ∙ YieldsList-so_far road passed t y in
+      let turn : (length passed < length all) × (p ≡ get_or all (length passed) p) = YieldsList-turn road passed t y r u p is e in
+      let rest : List ℕ = drop (suc (length passed)) all in
+      let split : passed ++ (p ∷ rest) ≡ all = split_at all (length passed) p passed front turn.0 turn.1 in
+      joined_all all None (rw split at (joins_both j (joins_both {ps = p ∷ []} {qs = rest} n (joins_over rest))))
 
-pub passing_step : {span joint next : Option ℕ} {ps qs rs more : List ℕ} → Passing span ps qs joint → qs ≡ rs ++ more → JoinsAll joint rs next → Passing span ps more next
-passing_step {rs = rs} {more} p e j = record {
-  bounded = j.bounded;
-  leads = λ whole ahead s. j.leads whole (more ++ ahead) (rw (e, append_assoc rs more ahead) at (p.leads whole ahead s));
-}
-
-pub passing_end : {span joint : Option ℕ} {ps qs : List ℕ} → Passing span ps qs joint → qs ≡ [] → JoinsAll span ps joint
-passing_end p e = record { bounded = p.bounded; leads = λ whole ahead s. rw e at (p.leads whole ahead s) }
-
-pub every_append : (r : Release) (l : List ℕ) → every_period r l ≡ every_period r [] ++ l
-every_append (Once instant) l = refl
-every_append (Every offset period) l = refl
-
--- ---- an entry more
-
-module _ {span joint next : Option ℕ} {ps : List ℕ} where
-  pub server_passed : (xs : List Server) (n i : ℕ) → n ≤ length xs → i < n → Passing span ps (server_periods (drop i (take n xs))) joint
-      → JoinsAll joint ((get_or xs i no_server).period ∷ []) next → Passing span ps (server_periods (drop (i + 1) (take n xs))) next
-  unfolding server_periods
-  server_passed xs n i h k p j = passing_step p (ap server_periods (entry_next xs n h no_server i k)) j
-
-  pub task_passed : (xs : List Task) (n i : ℕ) → n ≤ length xs → i < n → Passing span ps (task_periods (drop i (take n xs))) joint
-      → JoinsAll joint (every_period (get_or xs i no_task).release []) next → Passing span ps (task_periods (drop (i + 1) (take n xs))) next
-  unfolding task_periods
-  task_passed xs n i h k p j =
-      passing_step p (ap task_periods (entry_next xs n h no_task i k) ∙ every_append (get_or xs i no_task).release (task_periods (drop (i + 1) (take n xs)))) j
+  -- after the last
+  pub span_ends : r ≡ None → YieldsList steps (λ p. p) s all → Some m ≡ span_of all
+  span_ends is road = joined_all all (Some m) (rw (sym (map-id passed) ∙ (YieldsList-end road passed t y r u is e).0) at j)
 
 -- ---- what the span is: the least number above 0 that every period divides, or none up to 16,000 is such
 

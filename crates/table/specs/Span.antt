@@ -1,5 +1,6 @@
 -- Document 01, 'The table text': "`-` in `span` means the least common multiple of all server periods and all `every` periods".
-use Rattle.std.specs.Prelude.{ℕ, zero, suc, ◌%◌, List, [], ◌∷◌, ◌++◌, Bool, eqb, Option, Some, None}
+use Rattle.std.specs.Prelude.{ℕ, zero, suc, ◌%◌, List, ◌++◌, map, Bool, eqb, Option, Some, None}
+use Rattle.std.specs.List.{filter_map}
 use Rattle.basics.specs.Choice.{pick}
 use Rattle.table.specs.Rules.{all}
 use Rattle.table.specs.declared.Server.{Server}
@@ -8,16 +9,15 @@ use Rattle.table.specs.declared.Release.{Release}
 use Rattle.table.specs.declared.Release.TheVariants.{Once, Every}
 
 unfoldable pub server_periods : List Server → List ℕ
-server_periods [] = []
-server_periods (s ∷ l) = s.period ∷ server_periods l
+server_periods servers = map (λ s. s.period) servers
 
-abbrev pub every_period : Release → List ℕ → List ℕ
-every_period (Once instant) l = l
-every_period (Every offset period) l = period ∷ l
+-- the period, of a release that has one
+abbrev pub period_of : Release → Option ℕ
+period_of (Once instant) = None
+period_of (Every offset period) = Some period
 
 unfoldable pub task_periods : List Task → List ℕ
-task_periods [] = []
-task_periods (k ∷ l) = every_period k.release (task_periods l)
+task_periods tasks = filter_map (λ k. period_of k.release) tasks
 
 abbrev pub periods_of : List Server → List Task → List ℕ
 periods_of servers tasks = server_periods servers ++ task_periods tasks
