@@ -1,21 +1,22 @@
 -- Each server's first task with waiting work, noted on one walk up the tasks from the last. Assumes nothing.
-use Prim.Native.Nat.{ℕ, zero, suc, ◌-◌, ◌≤◌, ◌<◌}
-use mathlib.Core.Path.{◌≡◌, ap, ◌∙◌}
+use Prim.Native.Nat.{ℕ, zero, suc, ◌+◌, ◌-◌, ◌≤◌, ◌<◌}
+use mathlib.Core.Path.{◌≡◌, sym, ap, ◌∙◌}
 use mathlib.Core.Logic.{◌≢◌}
 use mathlib.Core.List.{List}
-use mathlib.Core.Bool.{false}
+use mathlib.Core.Bool.{Bool, false}
 use native.Mathlib.Omega.{arith}
 use native.Mathlib.Decide.{ℕ_discrete}
 use lib.ListN.{length, get_or, set}
+use Rattle.std.proofs.lemmas.List.{set-get_or}
 use lib.Seq.{get_or-set_same, get_or-set_other}
 use lib.Dec.{ltb}
-use borrow.Author.Tests.{eq-eqb, ne_eqb}
+use borrow.Author.Tests.{eq-eqb, ne_eqb, lt-ltb, le-ltb}
 use Rattle.basics.specs.Choice.{pick}
-use Rattle.table.specs.Rules.{no_task}
+use Rattle.table.specs.Rules.{no_server, no_task}
 use Rattle.table.specs.declared.Table.{Table}
 use Rattle.machine.specs.declared.State.{State}
 use Rattle.table.specs.Places.{first_of}
-use Rattle.machine.specs.Machine.{waits}
+use Rattle.machine.specs.Machine.{waits, may_hold, qualifies}
 use Rattle.machine.specs.Parts.{Firsts, noted}
 
 -- the walk has come up to place j: what is noted for each server is its first task from there on
@@ -61,3 +62,23 @@ noted_turn table s firsts (suc j) b z h p q e from =
     let d : suc j - 1 ≡ j = omega arith in
     rw (e, d)
     (noted_more table s firsts j ((get_or table.tasks j no_task).server - 1) (omega (arith, rw d at p)) (omega arith) (omega (arith, rw d at p, rw d at q)) from)
+
+-- the same, as the code has it: a task with waiting work is noted, and without it nothing changes
+module _ (table : Table) (s : State) (firsts : List ℕ) (j : ℕ) (z : 0 < j) (h : j ≤ table.tasks_n) (p : 1 ≤ (get_or table.tasks (j - 1) no_task).server) (q : (get_or table.tasks (j - 1) no_task).server ≤ length firsts) (from : NotedFrom table s firsts j) where
+  pub noted_waits : 0 < get_or s.waiting (j - 1) 0 → NotedFrom table s (set firsts ((get_or table.tasks (j - 1) no_task).server - 1) (j - 1 + 1)) (j - 1)
+  noted_waits w =
+      let number : j - 1 + 1 ≡ j = omega arith in
+      let e : j - 1 + 1 ≡ noted (get_or s.waiting (j - 1) 0) j (get_or firsts ((get_or table.tasks (j - 1) no_task).server - 1) 0) = rw (lt-ltb 0 (get_or s.waiting (j - 1) 0) w) number in
+      noted_turn table s firsts j (j - 1 + 1) z h p q e from
+
+  pub noted_rests : get_or s.waiting (j - 1) 0 ≤ 0 → NotedFrom table s firsts (j - 1)
+  noted_rests w =
+      let own = (get_or table.tasks (j - 1) no_task).server - 1 in
+      let e : get_or firsts own 0 ≡ noted (get_or s.waiting (j - 1) 0) j (get_or firsts own 0) = rw (le-ltb 0 (get_or s.waiting (j - 1) 0) w) in
+      let same : set firsts own (get_or firsts own 0) ≡ firsts = set-get_or firsts own 0 in
+      rw same at (noted_turn table s firsts j (get_or firsts own 0) z h p q e from)
+
+-- what is asked of a server is whether it qualifies
+pub asked : (table : Table) (s : State) (firsts : List ℕ) (i : ℕ) (b : Bool) → Firsts table s firsts → i < 16
+    → b ≡ may_hold (get_or s.budgets i 0) (get_or table.servers i no_server).kind (get_or firsts i 0) → qualifies table s i ≡ b
+asked table s firsts i b f h e = rw (← f i h) (sym e)
