@@ -15,7 +15,8 @@ pub fn first_tasks(state: State, table: Table) -> [u32; 16]
     let mut firsts = [0; 16];
     for j in (0..table.tasks_n).rev() {
         let own = (table.tasks[j].server - 1) as usize;
-        if 0 < state.waiting[j] {
+        let waiting = state.waiting[j];
+        if 0 < waiting {
             firsts[own] = (j as u32) + 1;
         }
     }
