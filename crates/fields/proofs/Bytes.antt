@@ -1,19 +1,17 @@
 -- Bytes one at a time: words, digits, numbers. Assumes nothing.
-use Prim.Native.Nat.{ℕ, zero, suc, ◌+◌, ◌-◌, ◌*◌, ◌^◌, ◌≤◌, ◌<◌}
-use mathlib.Core.Path.{◌≡◌, refl, sym, ap, ◌∙◌}
-use mathlib.Core.List.{List, [], ◌∷◌}
-use mathlib.Core.Bool.{true, false, ◌&&◌, and-false}
+use Prim.Native.Nat.{ℕ, ◌+◌, ◌-◌, ◌*◌, ◌≤◌, ◌<◌}
+use mathlib.Core.Path.{◌≡◌, refl}
+use mathlib.Core.List.{List, ◌∷◌}
+use mathlib.Core.Bool.{true}
 use native.Mathlib.Numerals.{add-one}
-use native.Mathlib.Nat.{pow-suc}
-use native.Mathlib.Omega.{arith}
 use lib.ListN.{length, get_or, drop, drop_of_length-le}
 use lib.Seq.{drop-cons}
-use lib.Dec.{eqb, leb}
+use lib.Dec.{leb}
 use borrow.Author.Tests.{leb-true}
 use Rattle.std.proofs.lemmas.List.Recursion.{and_at}
 use Rattle.basics.proofs.Tests.{and_left, and_right}
 use Rattle.table.specs.Rules.{all}
-use Rattle.fields.specs.Fields.{same_bytes, is_digit, digits_from}
+use Rattle.fields.specs.Fields.{is_digit, digits_from}
 
 -- the byte at a place
 pub byte_at : (l : List ℕ) (i : ℕ) → i < length l → drop i l ≡ get_or l i 0 ∷ drop (i + 1) l

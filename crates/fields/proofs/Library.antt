@@ -1,5 +1,5 @@
 -- The words of specs/ that the library has too. Assumes nothing.
-use Rattle.std.proofs.Common.{length, ltb, ◌≤◌, get_or, sym, Option, Some, None, unwrap_or, ◌≡◌, ℕ, ◌+◌, Bool, true, false, ◌&&◌, cond, eqb, List, [], ◌∷◌, refl, ap, ◌∙◌, arith}
+use Rattle.std.proofs.Common.{length, ltb, ◌≤◌, get_or, sym, Option, Some, None, unwrap_or, ◌≡◌, ℕ, Bool, true, false, ◌&&◌, cond, eqb, List, [], ◌∷◌, refl, ap, ◌∙◌, arith}
 use Rattle.std.specs.List.{list_all, slice_get, position_or_len, slice_split, onto_first}
 use Rattle.std.specs.Option.{option_map}
 use Rattle.std.specs.Cmp.Lexicographic.{pointwise}

@@ -1,19 +1,16 @@
 -- The pieces between separators, one at a time. Assumes nothing.
 use Prim.Native.Nat.{ℕ, suc, ◌+◌, ◌-◌, ◌≤◌, ◌<◌}
-use mathlib.Core.Path.{◌≡◌, refl, sym, ap, ◌∙◌}
+use mathlib.Core.Path.{◌≡◌, refl}
 use mathlib.Core.List.{List, [], ◌∷◌}
 use mathlib.Core.Bool.{Bool, true, false}
 use native.Mathlib.Nat.{le_refl}
 use native.Mathlib.Omega.{arith}
-use native.Mathlib.Decide.{dec_lt}
-use lib.ListN.{length, get_or, take, drop, drop_of_length-le, length-drop}
+use lib.ListN.{length, take, drop, length-drop}
 use lib.Seq.{take_all}
 use lib.Dec.{eqb}
-use borrow.Author.Tests.{eq-eqb, ne_eqb}
 use Rattle.basics.specs.Choice.{pick}
 use Rattle.fields.specs.Fields.{in_first, split}
 use Rattle.fields.specs.Pieces.{first_length}
-use Rattle.fields.proofs.Bytes.{byte_at}
 
 -- ---- where the first piece ends
 
