@@ -3,8 +3,9 @@ use Rattle.std.proofs.Common.{◌≡◌, ℕ, Bool, true, false, Result, Ok, Err
 use Rattle.std.proofs.lemmas.Result.{err_from_is_err_and}
 use Rattle.basics.specs.Choice.{pick}
 use Rattle.refusals.specs.declared.Ground.{Ground}
+use Rattle.refusals.specs.declared.Ground.TheVariants.{FieldCount}
 use Rattle.fields.specs.Fields.{fields_of, field_at, field_number}
-use Rattle.lines.specs.Lines.{counted, field, numbers_at}
+use Rattle.lines.specs.Lines.{wrong_at, counted, field, numbers_at}
 use Rattle.lines.specs.declared.Line.{Line}
 use Rattle.lines.specs.declared.Wrong.{Wrong}
 
@@ -18,13 +19,15 @@ test_refused x y e = rw e
 
 -- ---- the steps of a line: the code's step answered `q`, and what the whole line does is z
 
-pub count_passed : {q : Result (Unit {0}) Wrong} {r : ℕ} (w : Wrong) (line : List ℕ) (n : ℕ) (next z : Result Line Wrong) → r ≡ length (fields_of line)
-    → q ≡ pick (eqb r n) (Ok tt) (Err w) → q ≡ Ok tt → next ≡ z → counted line n next ≡ z
-count_passed {q} {r} w line n next z e f g h = go (eqb r n) refl
+pub count_passed : {q : Result (Unit {0}) Wrong} (line : List ℕ) (n : ℕ) (next z : Result Line Wrong) → q ≡ counted line n (Ok tt) → q ≡ Ok tt → next ≡ z → counted line n next ≡ z
+count_passed {q} line n next z read e h = go (eqb (length (fields_of line)) n) (sym read ∙ e)
   where
-    go : (t : Bool) → eqb r n ≡ t → counted line n next ≡ z
-    go true i = rw (sym e, i) h
-    go false i = let k : Ok tt ≡ Err w = sym g ∙ f ∙ rw i in cc
+    w : Wrong
+    w = wrong_at FieldCount 0
+
+    go : (t : Bool) → pick t (Ok tt) (Err w) ≡ Ok (tt {0}) → pick t next (Err w) ≡ z
+    go true i = h
+    go false i = let k : Err w ≡ Ok (tt {0}) = i in cc
 
 -- what comes behind a step, if it is passed
 abbrev after : {A B : Type 0} → Result A Wrong → (A → Result B Wrong) → Result B Wrong

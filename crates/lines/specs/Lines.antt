@@ -30,8 +30,8 @@ field (Ok x) place next = next x
 field (Err what) place next = Err (wrong_at what place)
 
 -- "ranges are tested once all fields of the line have passed 5"
-abbrev pub ranged : Bool → ℕ → Result Line Wrong → Result Line Wrong
-ranged ok place next = pick ok next (wrong OutOfRange place)
+abbrev pub ranged : {A : Type 0} → Bool → ℕ → Result A Wrong → Result A Wrong
+ranged ok place next = pick ok next (Err (wrong_at OutOfRange place))
 
 -- the number at a place
 abbrev pub number_at : {A : Type 0} → List ℕ → ℕ → (ℕ → Result A Wrong) → Result A Wrong
@@ -42,8 +42,8 @@ abbrev pub numbers_at : {A : Type 0} → List ℕ → ℕ → ℕ → (ℕ → �
 numbers_at line first second next = number_at line first (λ a. number_at line second (λ b. next a b))
 
 -- 4: "wrong count of fields"
-abbrev pub counted : List ℕ → ℕ → Result Line Wrong → Result Line Wrong
-counted line n next = pick (eqb (length (fields_of line)) n) next (wrong FieldCount 0)
+abbrev pub counted : {A : Type 0} → List ℕ → ℕ → Result A Wrong → Result A Wrong
+counted line n next = pick (eqb (length (fields_of line)) n) next (Err (wrong_at FieldCount 0))
 
 -- `span`: "ticks H, or `-`", which is 0 until all periods are known
 abbrev pub span_line : List ℕ → Result Line Wrong

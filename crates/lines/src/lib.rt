@@ -4,7 +4,7 @@
 ghost use Rattle.std.specs.Prelude.{◌≡◌, ◌<◌, Ok, Err};
 ghost use Rattle.basics.specs.Choice.{pick};
 ghost use Rattle.fields.specs.Fields.{field_at, same_bytes, dash};
-ghost use Rattle.lines.specs.Lines.{field, wrong_at, number_at, numbers_at, task_placed, kind_of, deadline_of, server_is, task_is, span_line, server_line, once_line, every_line, line_of};
+ghost use Rattle.lines.specs.Lines.{counted, ranged, field, wrong_at, number_at, numbers_at, task_placed, kind_of, deadline_of, server_is, task_is, span_line, server_line, once_line, every_line, line_of};
 
 use fields::Word;
 use fields::parting::{count, field, same};
@@ -32,7 +32,32 @@ pub struct Wrong {
 fn required(holds: bool, ground: Ground, place: u32) -> Result<(), Wrong>
     ensures { result ≡ pick holds (Ok tt) (Err (wrong_at ground place)) }
 {
-    if holds { Ok(()) } else { Err(Wrong { ground, place }) }
+    if holds {
+        Ok(())
+    } else {
+        Err(Wrong { ground, place })
+    }
+}
+
+// The test that a line has `n` fields.
+fn counted(line: &[u8], n: usize) -> Result<(), Wrong>
+    ensures { result ≡ counted line.now n (Ok tt) }
+{
+    required(count(line) == n, Ground::FieldCount, 0)
+}
+
+// The test that the number at a place is in its range.
+fn ranged(holds: bool, place: u32) -> Result<(), Wrong>
+    ensures { result ≡ ranged holds place (Ok tt) }
+{
+    required(holds, Ground::OutOfRange, place)
+}
+
+// What the field at a place is read as, or what is wrong with it.
+fn at<T>(read: Result<T, Ground>, place: u32) -> Result<T, Wrong>
+    ensures { result ≡ field read place (λ x. Ok x) }
+{
+    read.map_err(|ground| Wrong { ground, place })
 }
 
 // Whether `-` stands at a place, the line's first word being 1.
@@ -48,7 +73,7 @@ fn number_at(line: &[u8], place: u32) -> Result<u32, Wrong>
     requires { 0 < place }
     ensures { result ≡ number_at line.now place (λ n. Ok n) }
 {
-    number(field(line, place as usize - 1)).map_err(|ground| Wrong { ground, place })
+    at(number(field(line, place as usize - 1)), place)
 }
 
 // The numbers at two places.
@@ -63,12 +88,12 @@ fn numbers_at(line: &[u8], first: u32, second: u32) -> Result<(u32, u32), Wrong>
 fn span_line(line: &[u8]) -> Result<Line, Wrong>
     ensures { result ≡ span_line line.now }
 {
-    required(count(line) == 2, Ground::FieldCount, 0)?;
+    counted(line, 2)?;
     if dash_at(line, 2) {
         return Ok(Line::SpanIs(0));
     }
     let ticks = number_at(line, 2)?;
-    required(in_ticks(ticks), Ground::OutOfRange, 2)?;
+    ranged(in_ticks(ticks), 2)?;
     Ok(Line::SpanIs(ticks))
 }
 
@@ -88,20 +113,12 @@ fn kind(field: &[u8]) -> Result<Kind, Ground>
     Err(Ground::UnknownKind)
 }
 
-// The kind at a place.
-fn kind_at(line: &[u8], place: u32) -> Result<Kind, Wrong>
-    requires { 0 < place }
-    ensures { result ≡ field (kind_of (field_at line.now place)) place (λ k. Ok k) }
-{
-    kind(field(line, place as usize - 1)).map_err(|ground| Wrong { ground, place })
-}
-
 // A server, if its numbers are in their ranges.
 fn server(kind: Kind, capacity: u32, period: u32) -> Result<Line, Wrong>
     ensures { result ≡ server_is kind capacity period }
 {
-    required(in_ticks(capacity) && capacity <= period, Ground::OutOfRange, 3)?;
-    required(in_ticks(period), Ground::OutOfRange, 4)?;
+    ranged(in_ticks(capacity) && capacity <= period, 3)?;
+    ranged(in_ticks(period), 4)?;
     Ok(Line::ServerIs(Server {
         kind,
         capacity,
@@ -113,8 +130,8 @@ fn server(kind: Kind, capacity: u32, period: u32) -> Result<Line, Wrong>
 fn server_line(line: &[u8]) -> Result<Line, Wrong>
     ensures { result ≡ server_line line.now }
 {
-    required(count(line) == 4, Ground::FieldCount, 0)?;
-    let kind = kind_at(line, 2)?;
+    counted(line, 4)?;
+    let kind = at(kind(field(line, 1)), 2)?;
     let (capacity, period) = numbers_at(line, 3, 4)?;
     server(kind, capacity, period)
 }
@@ -123,17 +140,17 @@ fn server_line(line: &[u8]) -> Result<Line, Wrong>
 fn task(servers: usize, task: Task) -> Result<Line, Wrong>
     ensures { result ≡ task_is servers task }
 {
-    required(within(task.server as usize, servers), Ground::OutOfRange, 2)?;
-    required(in_ticks(task.work), Ground::OutOfRange, 3)?;
+    ranged(within(task.server as usize, servers), 2)?;
+    ranged(in_ticks(task.work), 3)?;
     match task.release {
         Release::Once(instant) => {
-            required(instant <= 16000, Ground::OutOfRange, 4)?;
-            required(in_ticks(task.deadline), Ground::OutOfRange, 5)?;
+            ranged(instant <= 16000, 4)?;
+            ranged(in_ticks(task.deadline), 5)?;
         }
         Release::Every(offset, period) => {
-            required(offset <= 16000, Ground::OutOfRange, 4)?;
-            required(in_ticks(period), Ground::OutOfRange, 5)?;
-            required(in_ticks(task.deadline), Ground::OutOfRange, 6)?;
+            ranged(offset <= 16000, 4)?;
+            ranged(in_ticks(period), 5)?;
+            ranged(in_ticks(task.deadline), 6)?;
         }
     }
     Ok(Line::TaskIs(task))
@@ -143,7 +160,7 @@ fn task(servers: usize, task: Task) -> Result<Line, Wrong>
 fn once_line(servers: usize, line: &[u8]) -> Result<Line, Wrong>
     ensures { result ≡ once_line servers line.now }
 {
-    required(count(line) == 5, Ground::FieldCount, 0)?;
+    counted(line, 5)?;
     let (server, work) = numbers_at(line, 2, 3)?;
     let (instant, deadline) = numbers_at(line, 4, 5)?;
     let release = Release::Once(instant);
@@ -171,7 +188,7 @@ fn deadline_at(line: &[u8], place: u32, period: u32) -> Result<u32, Wrong>
 fn every_line(servers: usize, line: &[u8]) -> Result<Line, Wrong>
     ensures { result ≡ every_line servers line.now }
 {
-    required(count(line) == 6, Ground::FieldCount, 0)?;
+    counted(line, 6)?;
     let (server, work) = numbers_at(line, 2, 3)?;
     let (offset, period) = numbers_at(line, 4, 5)?;
     let deadline = deadline_at(line, 6, period)?;
@@ -197,7 +214,10 @@ fn task_placed(servers: usize, tasks: usize) -> Result<(), Wrong>
 pub fn read_line(line: &[u8], n: u32, servers: usize, tasks: usize) -> Result<Line, Wrong>
     ensures { result ≡ line_of n servers tasks line.now }
 {
-    let misplaced = Wrong { ground: Ground::Misplaced, place: 0 };
+    let misplaced = Wrong {
+        ground: Ground::Misplaced,
+        place: 0,
+    };
     match word(field(line, 0)).ok_or(misplaced)? {
         Word::Span => {
             required(n == 1, Ground::Misplaced, 0)?;
