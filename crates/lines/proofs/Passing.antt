@@ -1,29 +1,13 @@
--- What a line says once a test of it, or one of its fields, is passed or refused: `r` is what the code read or tested, `q` what it answers.
--- Assumes nothing.
-use Prim.Native.Nat.{ℕ}
-use mathlib.Core.Path.{◌≡◌, refl, sym, ◌∙◌}
-use mathlib.Core.List.{List}
-use mathlib.Core.Bool.{Bool, true, false, ◌&&◌}
-use lib.ListN.{length}
-use lib.Dec.{leb}
-use borrow.Author.Tests.{leb-true, eq-eqb, ne_eqb}
+-- What a line says once a test of it, or one of its fields, is passed or refused. Assumes nothing.
+use Rattle.std.proofs.Common.{◌≡◌, ℕ, Bool, true, false, Result, Ok, Err, List, length, eqb, refl, sym, ◌∙◌, IsErrAnd}
+use Rattle.std.proofs.lemmas.Result.{err_from_is_err_and}
 use Rattle.basics.specs.Choice.{pick}
-use Rattle.basics.proofs.Tests.{and_left, and_right}
-use Rattle.table.specs.Rules.{between}
-use Rattle.table.specs.declared.Kind.{Kind}
 use Rattle.refusals.specs.declared.Ground.{Ground}
 use Rattle.refusals.specs.declared.Ground.TheVariants.{FieldCount}
-use Rattle.fields.specs.Fields.{fields_of}
-use Rattle.fields.specs.declared.Number.{Number}
-use Rattle.fields.specs.declared.Number.TheVariants as number
-use Rattle.lines.specs.Lines.{field, counted, kind_field, numbers_at}
-use Rattle.lines.specs.Pieces.{wrong_of, wrong_kind_of, wrong_pair_of, PairAt, HasPlace}
-use Rattle.lines.specs.declared.KindField.{KindField}
-use Rattle.lines.specs.declared.KindField.TheVariants as kind
-use Rattle.lines.specs.declared.Pair.{Pair}
-use Rattle.lines.specs.declared.Pair.TheVariants as pair
+use Rattle.fields.specs.Fields.{fields_of, field_at, field_number}
+use Rattle.lines.specs.Lines.{wrong_at, counted, field, numbers_at}
 use Rattle.lines.specs.declared.Line.{Line}
-use Rattle.lines.specs.declared.Line.TheVariants.{Wrong}
+use Rattle.lines.specs.declared.Wrong.{Wrong}
 
 -- ---- tests
 
@@ -33,43 +17,52 @@ test_passed x y e = rw e
 pub test_refused : {A : Type 0} {b : Bool} (x y : A) → b ≡ false → pick b x y ≡ y
 test_refused x y e = rw e
 
--- one after the other, with the same answer
-pub both_tests : (a b : Bool) (x y : Line) → pick a (pick b x y) y ≡ pick (a && b) x y
-both_tests true b x y = refl
-both_tests false b x y = refl
+-- ---- the steps of a line: the code's step answered `q`, and what the whole line does is z
 
--- ---- the count of fields
+pub count_passed : {q : Result (Unit {0}) Wrong} (line : List ℕ) (n : ℕ) (next z : Result Line Wrong) → q ≡ counted line n (Ok tt) → q ≡ Ok tt → next ≡ z → counted line n next ≡ z
+count_passed {q} line n next z read e h = go (eqb (length (fields_of line)) n) (sym read ∙ e)
+  where
+    w : Wrong
+    w = wrong_at FieldCount 0
 
-module _ (line : List ℕ) (n : ℕ) (next : Line) where
-  pub count_passed : length (fields_of line) ≡ n → counted line n next ≡ next
-  count_passed e = test_passed next _ (eq-eqb _ n e)
+    go : (t : Bool) → pick t (Ok tt) (Err w) ≡ Ok (tt {0}) → pick t next (Err w) ≡ z
+    go true i = h
+    go false i = let k : Err w ≡ Ok (tt {0}) = i in cc
 
-  pub count_refused : {r : ℕ} → r ≡ length (fields_of line) → (r ≡ n → ⊥) → counted line n next ≡ Wrong FieldCount 0
-  count_refused e h = test_refused next _ (ne_eqb _ n (λ f. h (e ∙ f)))
+-- what comes behind a step, if it is passed
+abbrev after : {A B : Type 0} → Result A Wrong → (A → Result B Wrong) → Result B Wrong
+after (Ok a) next = next a
+after (Err w) next = Err w
 
--- a line of n fields has the places 1 to n
-pub has_place : {line : List ℕ} {n place : ℕ} → length (fields_of line) ≡ n → between 1 n place ≡ true → HasPlace line place
-has_place {n = n} {place} e h = record { first = leb-true 1 place (and_left _ _ h); last = rw e (leb-true place n (and_right (leb 1 place) _ h)) }
+field_after : {A B : Type 0} (x : Result A Ground) (place : ℕ) (next : A → Result B Wrong) → field x place next ≡ after (field x place (λ n. Ok n)) next
+field_after (Ok a) place next = refl
+field_after (Err g) place next = refl
 
--- ---- fields
+module _ {A B : Type 0} (next : A → Result B Wrong) (z : Result B Wrong) where
+  passed : {q : Result A Wrong} {a : A} → q ≡ Ok a → next a ≡ z → after q next ≡ z
+  passed e h = rw e h
 
-module _ {x r : Number} (place : ℕ) (next : ℕ → Line) (read : r ≡ x) where
-  pub number_passed : {n : ℕ} → r ≡ number.Value n → field x place next ≡ next n
-  number_passed e = rw (sym read ∙ e)
+  refused : {q : Result A Wrong} {w : Wrong} → q ≡ Err w → IsErrAnd z (λ y. y ≡ w) → after q next ≡ z
+  refused e h = let p = err_from_is_err_and z h in rw (e, p.1, p.2)
 
-  pub number_refused : {what : Ground} {q : Line} → r ≡ number.Bad what → q ≡ wrong_of r place → field x place next ≡ q
-  number_refused e f = rw (sym read ∙ e) (sym (rw e at f))
+module _ {A B : Type 0} {q : Result A Wrong} (x : Result A Ground) (place : ℕ) (next : A → Result B Wrong) (z : Result B Wrong) (read : q ≡ field x place (λ n. Ok n)) where
+  pub field_passed : {a : A} → q ≡ Ok a → next a ≡ z → field x place next ≡ z
+  field_passed e h = field_after x place next ∙ rw (← read) (passed next z e h)
 
-module _ {x r : KindField} (place : ℕ) (next : Kind → Line) (read : r ≡ x) where
-  pub kind_passed : {k : Kind} → r ≡ kind.Is k → kind_field x place next ≡ next k
-  kind_passed e = rw (sym read ∙ e)
+  pub field_refused : {w : Wrong} → q ≡ Err w → IsErrAnd z (λ y. y ≡ w) → field x place next ≡ z
+  field_refused e h = field_after x place next ∙ rw (← read) (refused next z e h)
 
-  pub kind_refused : {what : Ground} {q : Line} → r ≡ kind.Bad what → q ≡ wrong_kind_of r place → kind_field x place next ≡ q
-  kind_refused e f = rw (sym read ∙ e) (sym (rw e at f))
+module _ {B : Type 0} {q : Result (ℕ × ℕ) Wrong} (line : List ℕ) (first second : ℕ) (next : ℕ → ℕ → Result B Wrong) (z : Result B Wrong) (read : q ≡ numbers_at line first second (λ a b. Ok (a, b))) where
+  numbers_after : numbers_at line first second next ≡ after {A = ℕ × ℕ} (numbers_at line first second (λ a b. Ok (a, b))) (λ p. next p.0 p.1)
+  numbers_after = go (field_number (field_at line first)) (field_number (field_at line second))
+    where
+      go : (x y : Result ℕ Ground) → field x first (λ a. field y second (λ b. next a b)) ≡ after {A = ℕ × ℕ} (field x first (λ a. field {B = ℕ × ℕ} y second (λ b. Ok (a, b)))) (λ p. next p.0 p.1)
+      go (Ok a) (Ok b) = refl
+      go (Ok a) (Err g) = refl
+      go (Err g) y = refl
 
-module _ {line : List ℕ} {first second : ℕ} {r : Pair} (next : ℕ → ℕ → Line) (read : PairAt line first second r) where
-  pub pair_passed : {a b : ℕ} → r ≡ pair.Of a b → numbers_at line first second next ≡ next a b
-  pair_passed e = read.is next ∙ rw e
+  pub numbers_passed : {a b : ℕ} → q ≡ Ok (a, b) → next a b ≡ z → numbers_at line first second next ≡ z
+  numbers_passed e h = numbers_after ∙ rw (← read) (passed (λ p. next p.0 p.1) z e h)
 
-  pub pair_refused : {wrong q : Line} → r ≡ pair.Bad wrong → q ≡ wrong_pair_of r → numbers_at line first second next ≡ q
-  pair_refused e f = read.is next ∙ rw e (sym (rw e at f))
+  pub numbers_refused : {w : Wrong} → q ≡ Err w → IsErrAnd z (λ y. y ≡ w) → numbers_at line first second next ≡ z
+  numbers_refused e h = numbers_after ∙ rw (← read) (refused (λ p. next p.0 p.1) z e h)

@@ -1,6 +1,7 @@
 -- The five texts are read, by computing, a line at a time. Assumes nothing.
 use Prim.Native.Nat.{ℕ, ◌+◌}
 use mathlib.Core.Path.{◌≡◌, refl, ap, ◌∙◌}
+use Rattle.std.specs.Prelude.{Result}
 use mathlib.Core.List.{List, [], ◌∷◌}
 use Rattle.table.specs.Rules.{all}
 use Rattle.table.specs.Span.{server_periods, task_periods, first_multiple}
@@ -17,7 +18,7 @@ use Rattle.lines.specs.declared.Line.{Line}
 use Rattle.lines.specs.declared.Line.TheVariants.{SpanIs, ServerIs, TaskIs, Wrong}
 use Rattle.reading.specs.Reading.{no_table, refusal, accepted, ended_of, after_line, read_lines, reading_of}
 use Rattle.reading.specs.Pieces.{with_line}
-use Rattle.reading.specs.declared.Reading.{Reading}
+use Rattle.refusals.specs.declared.Refusal.{Refusal}
 use Rattle.reading.specs.Examples.{text_a, text_b, text_c, text_free, text_zero, read_a, read_b, read_c, read_free, Checked}
 
 -- ---- lines of which it is known what they say
@@ -29,7 +30,7 @@ LinesSay [] (l ∷ ls) t n = ⊥
 LinesSay (x ∷ xs) [] t n = ⊥
 LinesSay (x ∷ xs) (l ∷ ls) t n = (line_of n t.servers_n t.tasks_n l ≡ x) × LinesSay xs ls (with_line t x) (n + 1)
 
-abbrev read_said : List Line → Table → ℕ → Reading
+abbrev read_said : List Line → Table → ℕ → Result Table Refusal
 read_said [] t n = ended_of t n
 read_said (x ∷ xs) t n = after_line x t n (λ u. read_said xs u (n + 1))
 

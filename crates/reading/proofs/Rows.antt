@@ -1,14 +1,15 @@
 -- Line after line: what a line can say, that the table stays within its rules, and where the next line starts. Assumes nothing.
 use Prim.Native.Nat.{ℕ, zero, suc, ◌+◌, ◌-◌, ◌≤◌, ◌<◌}
 use mathlib.Core.Path.{◌≡◌, refl, sym, ap, subst, ◌∙◌}
+use Rattle.std.specs.Prelude.{Result}
 use mathlib.Core.List.{List, [], ◌∷◌}
 use mathlib.Core.Bool.{Bool, true, false, ◌&&◌}
 use native.Mathlib.Numerals.{add-one}
 use native.Mathlib.Omega.{arith}
 use lib.ListN.{length, get_or, take, drop, set, length-drop, length-set}
-use lib.Seq.{take-suc-set, get_or-drop}
+use lib.Seq.{take-suc-set, length-take-le, get_or-drop}
 use lib.Dec.{ltb, leb, eqb}
-use borrow.Author.Tests.{ltb-true, leb-true, eqb-true, eq-eqb}
+use borrow.Author.Tests.{ltb-true, leb-true, eqb-true, eqb-false, eq-eqb}
 use Rattle.basics.specs.Choice.{pick}
 use Rattle.basics.proofs.Tests.{and_left, and_right}
 use Rattle.table.specs.Rules.{all, between, in_ticks, server_obeys, task_obeys, servers_of, tasks_of}
@@ -22,7 +23,7 @@ use Rattle.table.specs.declared.Release.TheVariants as release
 use Rattle.fields.specs.Fields.{split, all_but_last, lines_of, fields_of, field_at, same_bytes, dash, word_of, field_number}
 use Rattle.lines.specs.Lines.{field, ranged, number_at, numbers_at, span_line, kind_of, kind_field, server_line, release_is, task_is, once_line, deadline_of, every_line, task_placed, by_word, line_of}
 use Rattle.reading.specs.Reading.{no_table, refusal, with_server, ended_of, after_line, read_lines}
-use Rattle.reading.specs.declared.Reading.{Reading}
+use Rattle.refusals.specs.declared.Refusal.{Refusal}
 use Rattle.fields.specs.Pieces.{first_length}
 use Rattle.reading.specs.Pieces.{with_line, goes_on, Feeds}
 use Rattle.refusals.specs.Refusals.{last_place}
@@ -139,7 +140,7 @@ module _ (servers tasks : ℕ) where
 
 -- ---- after a line
 
-pub after_right : (line : Line) (t : Table) (n : ℕ) (next : Table → Reading) → goes_on line ≡ true → after_line line t n next ≡ next (with_line t line)
+pub after_right : (line : Line) (t : Table) (n : ℕ) (next : Table → Result Table Refusal) → goes_on line ≡ true → after_line line t n next ≡ next (with_line t line)
 after_right (SpanIs h) t n next e = refl
 after_right (ServerIs s) t n next e = refl
 after_right (TaskIs k) t n next e = refl
@@ -251,12 +252,23 @@ first_line rest = take (first_length 10 rest) rest
 abbrev pub said : List ℕ → Table → ℕ → Line
 said rest t n = line_of n t.servers_n t.tasks_n (first_line rest)
 
+-- which a reading of as many bytes as lie before the line feed says
+pub said_by : (rest : List ℕ) (t : Table) (n : ℕ) {k : ℕ} {r x : Line} → k ≡ first_length 10 rest → r ≡ line_of n t.servers_n t.tasks_n (take k rest) → r ≡ x → said rest t n ≡ x
+said_by rest t n p q e = sym (rw p at q) ∙ e
+
 pub said_says : (rest : List ℕ) (t : Table) (n : ℕ) {x : Line} → said rest t n ≡ x → Says t.servers_n t.tasks_n x
 said_says rest t n e = subst (Says t.servers_n t.tasks_n) e (line_says t.servers_n t.tasks_n n (first_line rest))
 
 module _ {text rest : List ℕ} {t : Table} {n : ℕ} (u : Underway text rest t n) where
   pub feed_at : 0 < length rest → first_length 10 rest < length rest
   feed_at h = line_feed rest u.feeds h
+
+  -- the line feed behind its first line is within the rest
+  pub feed_within : {b : Bool} {k : ℕ} → b ≡ eqb (length rest) 0 → b ≡ false → k ≡ first_length 10 rest → k + 1 ≤ length rest
+  feed_within p q e = omega (arith, eqb-false (length rest) 0 (sym p ∙ q), feed_at, e)
+
+  pub line_short : {b : Bool} {k : ℕ} → b ≡ eqb (length rest) 0 → b ≡ false → k ≡ first_length 10 rest → length (take k rest) ≤ 4096
+  line_short {k = k} p q e = let h = feed_within p q e in omega (arith, length-take-le k rest (omega arith), u.short)
 
   unread : 0 < length rest → {x : Line} → said rest t n ≡ x
       → after_line x t n (λ v. read_lines (lines_of (drop (first_length 10 rest + 1) rest)) v (n + 1)) ≡ read_lines (lines_of text) no_table 1
