@@ -5,11 +5,8 @@ use Rattle.refusals.specs.declared.Refusal.{Refusal}
 use Rattle.entries.specs.Entries.{rows}
 use Rattle.answers.specs.declared.Analysis.{Analysis}
 use Rattle.answers.specs.declared.Response.{Response}
-use Rattle.answers.specs.declared.Response.TheVariants.{Worst, Unfinished, None}
-use Rattle.answers.specs.declared.Short.{Short}
-use Rattle.answers.specs.declared.Short.TheVariants.{First, Never}
+use Rattle.answers.specs.declared.Response.TheVariants as response
 use Rattle.answers.specs.declared.ServerAnswer.{ServerAnswer}
-use Rattle.answers.specs.declared.TaskAnswer.{TaskAnswer}
 use Rattle.scheduling.specs.declared.Who.{Who}
 use Rattle.handing_tables.specs.Tables.{given, Counted}
 
@@ -40,31 +37,31 @@ pub record HandsWho (who : Who) (holder runner : ℕ) (refusal : Refusal) (holde
 -- ---- answers as numbers
 
 -- 4,294,967,295 for none
-abbrev pub short_number : Short → ℕ
-short_number (First k) = k
-short_number Never = 4294967295
+abbrev pub short_number : Option ℕ → ℕ
+short_number (Some k) = k
+short_number None = 4294967295
 
 -- 1 worst, 2 unfinished, 0 none
 abbrev pub outcome_number : Response → ℕ
-outcome_number (Worst w) = 1
-outcome_number (Unfinished release) = 2
-outcome_number None = 0
+outcome_number (response.Worst w) = 1
+outcome_number (response.Unfinished release) = 2
+outcome_number response.None = 0
 
 -- 0 where there is none
 abbrev pub response_number : Response → ℕ
-response_number (Worst w) = w.response
-response_number (Unfinished release) = 0
-response_number None = 0
+response_number (response.Worst w) = w.response
+response_number (response.Unfinished release) = 0
+response_number response.None = 0
 
 abbrev pub release_number : Response → ℕ
-release_number (Worst w) = w.release
-release_number (Unfinished release) = release
-release_number None = 0
+release_number (response.Worst w) = w.release
+release_number (response.Unfinished release) = release
+release_number response.None = 0
 
 abbrev pub margin_number : Response → ℤ
-margin_number (Worst w) = w.margin
-margin_number (Unfinished release) = pos 0
-margin_number None = pos 0
+margin_number (response.Worst w) = w.margin
+margin_number (response.Unfinished release) = pos 0
+margin_number response.None = pos 0
 
 -- one number of each entry
 unfoldable pub each : {A B : Type 0} → (A → B) → List A → List B
@@ -83,18 +80,18 @@ abbrev pub server_answer_row : ServerAnswer → List ℕ
 server_answer_row a = a.full ∷ (short_number a.short ∷ [])
 
 -- a task's row: what is said of it, the response, the release
-abbrev pub task_answer_row : TaskAnswer → List ℕ
-task_answer_row a = outcome_number a.response ∷ (response_number a.response ∷ (release_number a.response ∷ []))
+abbrev pub task_answer_row : Response → List ℕ
+task_answer_row r = outcome_number r ∷ (response_number r ∷ (release_number r ∷ []))
 
 -- the arrays afterwards: by the count, the answers and what was there before
 abbrev pub server_answers : ℕ → List ServerAnswer → List ℕ → List ℕ
 server_answers n l old = front (rows server_answer_row (take n l)) old
 
-abbrev pub task_answers : ℕ → List TaskAnswer → List ℕ → List ℕ
+abbrev pub task_answers : ℕ → List Response → List ℕ → List ℕ
 task_answers n l old = front (rows task_answer_row (take n l)) old
 
-abbrev pub margins : ℕ → List TaskAnswer → List ℤ → List ℤ
-margins = in_front (λ (a : TaskAnswer). margin_number a.response)
+abbrev pub margins : ℕ → List Response → List ℤ → List ℤ
+margins = in_front margin_number
 
 -- what is handed out of the answers
 pub record Listed : Type 0 where

@@ -2,13 +2,13 @@
 ghost use Rattle.std.specs.Prelude.{◌≡◌, ◌*◌, ◌≤◌, ℕ, List, length, refl};
 ghost use Rattle.refusals.specs.Outcomes.{front};
 ghost use Rattle.entries.specs.Entries.{rows};
-ghost use Rattle.handing.specs.Handing.{short_number, margin_number, server_answer_row, task_answer_row, server_answers, task_answers, margins};
+ghost use Rattle.handing.specs.Handing.{margin_number, server_answer_row, task_answer_row, server_answers, task_answers, margins};
 
-use answers::{Response, ServerAnswer, Short, TaskAnswer};
+use answers::{Response, ServerAnswer};
 use entries::placing::put_row;
 
 // What stands for no short period.
-pub const NONE: u32 = 4_294_967_295;
+pub const NONE: u32 = u32::MAX;
 
 // An answer that is listed as a row of N numbers.
 trait Row<const N: usize>: Copy {
@@ -23,30 +23,21 @@ trait Row<const N: usize>: Copy {
     ghost wide: { (answer : Self) → length (numbers answer) ≡ N };
 }
 
-fn short_number(short: Short) -> u32
-    ensures { result ≡ short_number short }
-{
-    match short {
-        Short::First(k) => k,
-        Short::Never => NONE,
-    }
-}
-
 impl Row<2> for ServerAnswer {
     ghost numbers = { server_answer_row };
 
     fn row(self) -> [u32; 2] {
-        [self.full, short_number(self.short)]
+        [self.full, self.short.unwrap_or(NONE)]
     }
 
     ghost wide = { λ answer. refl };
 }
 
-impl Row<3> for TaskAnswer {
+impl Row<3> for Response {
     ghost numbers = { task_answer_row };
 
     fn row(self) -> [u32; 3] {
-        match self.response {
+        match self {
             Response::Worst(worst) => [1, worst.response, worst.release],
             Response::Unfinished(release) => [2, 0, release],
             Response::None => [0, 0, 0],
@@ -85,7 +76,7 @@ pub fn list_servers(servers: [ServerAnswer; 16], n: usize, out: &mut [u32])
 }
 
 // Lists what is answered of the first n tasks, a row for each, but for the margins.
-pub fn list_tasks(tasks: [TaskAnswer; 64], n: usize, out: &mut [u32])
+pub fn list_tasks(tasks: [Response; 64], n: usize, out: &mut [u32])
     requires { (length tasks ≡ 64) × (n ≤ 64) × (192 ≤ length out.old) }
     ensures { out.new ≡ task_answers n tasks out.old }
 {
@@ -93,11 +84,11 @@ pub fn list_tasks(tasks: [TaskAnswer; 64], n: usize, out: &mut [u32])
 }
 
 // Lists the margins of the first n tasks.
-pub fn list_margins(tasks: [TaskAnswer; 64], n: usize, margin: &mut [i32])
+pub fn list_margins(tasks: [Response; 64], n: usize, margin: &mut [i32])
     requires { (length tasks ≡ 64) × (n ≤ 64) × (n ≤ length margin.old) }
     ensures { margin.new ≡ margins n tasks margin.old }
 {
-    for (j, task) in tasks[..n].iter().enumerate() {
-        margin[j] = margin_number(task.response);
+    for (j, response) in tasks[..n].iter().enumerate() {
+        margin[j] = margin_number(*response);
     }
 }

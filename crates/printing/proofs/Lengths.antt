@@ -11,11 +11,9 @@ use Rattle.refusals.specs.declared.Refusal.{Refusal}
 use Rattle.answers.specs.Answers.{no_server_answer, no_task_answer}
 use Rattle.answers.specs.declared.Analysis.{Analysis}
 use Rattle.answers.specs.declared.Response.{Response}
-use Rattle.answers.specs.declared.Response.TheVariants.{Worst, Unfinished, None}
+use Rattle.answers.specs.declared.Response.TheVariants as response
 use Rattle.answers.specs.declared.ServerAnswer.{ServerAnswer}
-use Rattle.answers.specs.declared.Short.{Short}
-use Rattle.answers.specs.declared.Short.TheVariants.{First, Never}
-use Rattle.answers.specs.declared.TaskAnswer.{TaskAnswer}
+use Rattle.std.specs.Prelude.{Option, Some, None}
 use Rattle.answers.proofs.Within.{ResponseWithin, ShortWithin, ServerWithin, Within}
 use Rattle.putting.proofs.Lengths.{field_two, field_four, field_five, signed_five}
 use Rattle.printing.specs.Report.{refused_line, span_line, short_field, server_line, response_fields, task_line, listed, server_lines, task_lines, report_of}
@@ -34,10 +32,10 @@ span_line_most : (H : ℕ) → H ≤ 16000 → length (span_line H) ≤ 11
 unfolding span_line
 span_line_most H h = simp length-append (omega (arith, field_five H (omega arith)))
 
-short_field_most : (s : Short) → ShortWithin s → length (short_field s) ≤ 6
+short_field_most : (s : Option ℕ) → ShortWithin s → length (short_field s) ≤ 6
 unfolding short_field
-short_field_most (First k) h = field_five k (omega arith)
-short_field_most Never h = omega arith
+short_field_most (Some k) h = field_five k (omega arith)
+short_field_most None h = omega arith
 
 -- server 16 16000 15999
 server_line_most : (number : ℕ) (answer : ServerAnswer) → number ≤ 99 → ServerWithin answer → length (server_line number answer) ≤ 22
@@ -49,7 +47,7 @@ server_line_most number answer n w =
 -- worst 16000 15999 -15999
 response_most : (x : Response) → ResponseWithin x → length (response_fields x) ≤ 25
 unfolding response_fields
-response_most (Worst w) h =
+response_most (response.Worst w) h =
     simp length-append (
     omega (
       arith,
@@ -58,13 +56,13 @@ response_most (Worst w) h =
       signed_five w.margin (omega (arith, h.margin)),
     )
     )
-response_most (Unfinished r) h = simp length-append (omega (arith, field_five r (omega arith)))
-response_most None h = omega arith
+response_most (response.Unfinished r) h = simp length-append (omega (arith, field_five r (omega arith)))
+response_most response.None h = omega arith
 
 -- task 64 worst 16000 15999 -15999
-task_line_most : (number : ℕ) (answer : TaskAnswer) → number ≤ 99 → ResponseWithin answer.response → length (task_line number answer) ≤ 33
+task_line_most : (number : ℕ) (answer : Response) → number ≤ 99 → ResponseWithin answer → length (task_line number answer) ≤ 33
 unfolding task_line
-task_line_most number answer n w = simp length-append (omega (arith, field_two number n, response_most answer.response w))
+task_line_most number answer n w = simp length-append (omega (arith, field_two number n, response_most answer w))
 
 -- lines of at most so many bytes each
 listed_most : {A : Type 0} (line : ℕ → A → List ℕ) (none : A) (answers : List A) (most k i : ℕ)

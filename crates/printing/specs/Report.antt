@@ -1,16 +1,13 @@
 -- Document 01, 'What the report program prints': "Fields are parted by tabs, each line ends with a line feed."
-use Rattle.std.specs.Prelude.{ℕ, zero, suc, List, [], ◌∷◌, ◌++◌, get_or, eqb}
+use Rattle.std.specs.Prelude.{ℕ, zero, suc, List, [], ◌∷◌, ◌++◌, Option, Some, None, get_or, eqb}
 use Rattle.basics.specs.Choice.{pick}
 use Rattle.fields.specs.Fields.{span_word, server_word, dash}
 use Rattle.putting.specs.Decimal.{field, signed, feed}
 use Rattle.refusals.specs.declared.Refusal.{Refusal}
 use Rattle.answers.specs.Answers.{no_server_answer, no_task_answer}
 use Rattle.answers.specs.declared.Response.{Response}
-use Rattle.answers.specs.declared.Response.TheVariants.{Worst, Unfinished, None}
-use Rattle.answers.specs.declared.Short.{Short}
-use Rattle.answers.specs.declared.Short.TheVariants.{First, Never}
+use Rattle.answers.specs.declared.Response.TheVariants as response
 use Rattle.answers.specs.declared.ServerAnswer.{ServerAnswer}
-use Rattle.answers.specs.declared.TaskAnswer.{TaskAnswer}
 use Rattle.answers.specs.declared.Analysis.{Analysis}
 
 -- ---- the words refused, task, worst, unfinished, none; span and server are those of a table's text
@@ -41,9 +38,9 @@ unfoldable pub span_line : ℕ → List ℕ
 span_line H = span_word ++ (field H ++ feed)
 
 -- "the first short one (from 0) or `-`"
-unfoldable pub short_field : Short → List ℕ
-short_field (First k) = field k
-short_field Never = 9 ∷ dash
+unfoldable pub short_field : Option ℕ → List ℕ
+short_field (Some k) = field k
+short_field None = 9 ∷ dash
 
 -- "for each server `server`, number, count of full periods, the first short one (from 0) or `-`"
 unfoldable pub server_line : ℕ → ServerAnswer → List ℕ
@@ -51,13 +48,13 @@ server_line number answer = server_word ++ (field number ++ (field answer.full +
 
 -- "`worst`, response, release of the first job that attains it, margin", "`unfinished`, release of the first job not ended at H", "`none`"
 unfoldable pub response_fields : Response → List ℕ
-response_fields (Worst w) = (9 ∷ worst_word) ++ (field w.response ++ (field w.release ++ signed w.margin))
-response_fields (Unfinished release) = (9 ∷ unfinished_word) ++ field release
-response_fields None = 9 ∷ none_word
+response_fields (response.Worst w) = (9 ∷ worst_word) ++ (field w.response ++ (field w.release ++ signed w.margin))
+response_fields (response.Unfinished release) = (9 ∷ unfinished_word) ++ field release
+response_fields response.None = 9 ∷ none_word
 
 -- "for each task, by number, .. `task`, number, .."
-unfoldable pub task_line : ℕ → TaskAnswer → List ℕ
-task_line number answer = task_word ++ (field number ++ (response_fields answer.response ++ feed))
+unfoldable pub task_line : ℕ → Response → List ℕ
+task_line number answer = task_word ++ (field number ++ (response_fields answer ++ feed))
 
 -- the lines of all entries of a list, the first of which has the place i; a number is one more than its place
 unfoldable pub numbered : {A : Type 0} → (ℕ → A → List ℕ) → List A → ℕ → List ℕ
@@ -72,7 +69,7 @@ listed line none answers (suc k) i = line (suc i) (get_or answers i none) ++ lis
 abbrev pub server_lines : List ServerAnswer → ℕ → ℕ → List ℕ
 server_lines answers k i = listed server_line no_server_answer answers k i
 
-abbrev pub task_lines : List TaskAnswer → ℕ → ℕ → List ℕ
+abbrev pub task_lines : List Response → ℕ → ℕ → List ℕ
 task_lines answers k i = listed task_line no_task_answer answers k i
 
 -- ---- the report

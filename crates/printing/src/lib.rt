@@ -7,7 +7,7 @@ ghost use Rattle.putting.specs.Puts.{Put};
 ghost use Rattle.putting.specs.Pages.{Adds};
 ghost use Rattle.printing.specs.Report.{refused_line, span_line, short_field, server_line, response_fields, task_line, numbered, report_of};
 
-use answers::{Analysis, Response, ServerAnswer, Short, TaskAnswer, WorstJob};
+use answers::{Analysis, Response, ServerAnswer, WorstJob};
 use putting::Page;
 use refusals::Refusal;
 
@@ -44,14 +44,14 @@ fn put_span(page: &mut Page<'_>, span: u32)
 
 // Puts the first short period, or that there is none.
 #[tactic(auto, unfolding(crate::specs::Report::short_field))]
-fn put_short(page: &mut Page<'_>, short: Short)
+fn put_short(page: &mut Page<'_>, short: Option<u32>)
     requires { page.old.count + 11 ≤ 1000000 }
     ensures adds { Adds page.old page.new (short_field short) }
     ensures most { page.new.count ≤ page.old.count + 11 }
 {
     match short {
-        Short::First(period) => page.put_field(period),
-        Short::Never => page.put_word(b"\t-"),
+        Some(period) => page.put_field(period),
+        None => page.put_word(b"\t-"),
     }
 }
 
@@ -108,14 +108,14 @@ impl Entry for ServerAnswer {
     }
 }
 
-impl Entry for TaskAnswer {
+impl Entry for Response {
     ghost line = { task_line };
 
     ghost most = { 56 };
 
     fn put(self, page: &mut Page<'_>, number: u32) {
         page.put_labelled(b"task", number);
-        put_response(page, self.response);
+        put_response(page, self);
         page.put_byte(b'\n');
     }
 }

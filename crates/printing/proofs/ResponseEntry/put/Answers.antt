@@ -1,6 +1,6 @@
 use Rattle.putting.proofs.Pages.{adds_more}
 use Rattle.printing.specs.Report.{task_line}
-use Rattle.printing.proofs.TaskAnswerEntry.put.Goals as goal
+use Rattle.printing.proofs.ResponseEntry.put.Goals as goal
 
 pub returns-clause-adds : goal.returns-clause-adds
 unfolding task_line
