@@ -25,20 +25,20 @@ abbrev pub wrong : Ground → ℕ → Result Line Wrong
 wrong g place = Err (wrong_at g place)
 
 -- "A refused field ends the reading of its line with that answer"
-abbrev pub field : {A B : Type 0} → Result A Ground → ℕ → (A → Result B Wrong) → Result B Wrong
+abbrev pub field : {A : Type 0} → Result A Ground → ℕ → (A → Result Line Wrong) → Result Line Wrong
 field (Ok x) place next = next x
-field (Err what) place next = Err (wrong_at what place)
+field (Err what) place next = wrong what place
 
 -- "ranges are tested once all fields of the line have passed 5"
 abbrev pub ranged : {A : Type 0} → Bool → ℕ → Result A Wrong → Result A Wrong
 ranged ok place next = pick ok next (Err (wrong_at OutOfRange place))
 
 -- the number at a place
-abbrev pub number_at : {A : Type 0} → List ℕ → ℕ → (ℕ → Result A Wrong) → Result A Wrong
+abbrev pub number_at : List ℕ → ℕ → (ℕ → Result Line Wrong) → Result Line Wrong
 number_at line place next = field (field_number (field_at line place)) place next
 
 -- the numbers at two places
-abbrev pub numbers_at : {A : Type 0} → List ℕ → ℕ → ℕ → (ℕ → ℕ → Result A Wrong) → Result A Wrong
+abbrev pub numbers_at : List ℕ → ℕ → ℕ → (ℕ → ℕ → Result Line Wrong) → Result Line Wrong
 numbers_at line first second next = number_at line first (λ a. number_at line second (λ b. next a b))
 
 -- 4: "wrong count of fields"

@@ -3,8 +3,9 @@
 
 ghost use Rattle.std.specs.Prelude.{◌≡◌, ◌<◌, Ok, Err};
 ghost use Rattle.basics.specs.Choice.{pick};
-ghost use Rattle.fields.specs.Fields.{field_at, same_bytes, dash};
-ghost use Rattle.lines.specs.Lines.{counted, ranged, field, wrong_at, number_at, numbers_at, task_placed, kind_of, deadline_of, server_is, task_is, span_line, server_line, once_line, every_line, line_of};
+ghost use Rattle.fields.specs.Fields.{field_at, same_bytes, dash, field_number};
+ghost use Rattle.lines.specs.Pieces.{ReadAt};
+ghost use Rattle.lines.specs.Lines.{wrong_at, counted, ranged, task_placed, kind_of, deadline_of, server_is, task_is, span_line, server_line, once_line, every_line, line_of};
 
 use fields::Word;
 use fields::parting::{count, field, same};
@@ -55,7 +56,7 @@ fn ranged(holds: bool, place: u32) -> Result<(), Wrong>
 
 // What the field at a place is read as, or what is wrong with it.
 fn at<T>(read: Result<T, Ground>, place: u32) -> Result<T, Wrong>
-    ensures { result ≡ field read place (λ x. Ok x) }
+    ensures { ReadAt read place result }
 {
     read.map_err(|ground| Wrong { ground, place })
 }
@@ -71,17 +72,9 @@ fn dash_at(line: &[u8], place: u32) -> bool
 // The number at a place.
 fn number_at(line: &[u8], place: u32) -> Result<u32, Wrong>
     requires { 0 < place }
-    ensures { result ≡ number_at line.now place (λ n. Ok n) }
+    ensures { ReadAt (field_number (field_at line.now place)) place result }
 {
     at(number(field(line, place as usize - 1)), place)
-}
-
-// The numbers at two places.
-fn numbers_at(line: &[u8], first: u32, second: u32) -> Result<(u32, u32), Wrong>
-    requires { (0 < first) × (0 < second) }
-    ensures { result ≡ numbers_at line.now first second (λ a b. Ok (a, b)) }
-{
-    Ok((number_at(line, first)?, number_at(line, second)?))
 }
 
 // `span`: a number of ticks, or `-`.
@@ -132,7 +125,8 @@ fn server_line(line: &[u8]) -> Result<Line, Wrong>
 {
     counted(line, 4)?;
     let kind = at(kind(field(line, 1)), 2)?;
-    let (capacity, period) = numbers_at(line, 3, 4)?;
+    let capacity = number_at(line, 3)?;
+    let period = number_at(line, 4)?;
     server(kind, capacity, period)
 }
 
@@ -161,8 +155,10 @@ fn once_line(servers: usize, line: &[u8]) -> Result<Line, Wrong>
     ensures { result ≡ once_line servers line.now }
 {
     counted(line, 5)?;
-    let (server, work) = numbers_at(line, 2, 3)?;
-    let (instant, deadline) = numbers_at(line, 4, 5)?;
+    let server = number_at(line, 2)?;
+    let work = number_at(line, 3)?;
+    let instant = number_at(line, 4)?;
+    let deadline = number_at(line, 5)?;
     let release = Release::Once(instant);
     let read = Task {
         server,
@@ -176,7 +172,7 @@ fn once_line(servers: usize, line: &[u8]) -> Result<Line, Wrong>
 // The deadline at a place: a number, or `-` for the period.
 fn deadline_at(line: &[u8], place: u32, period: u32) -> Result<u32, Wrong>
     requires { 0 < place }
-    ensures { result ≡ field (deadline_of (field_at line.now place) period) place (λ d. Ok d) }
+    ensures { ReadAt (deadline_of (field_at line.now place) period) place result }
 {
     if dash_at(line, place) {
         return Ok(period);
@@ -189,8 +185,10 @@ fn every_line(servers: usize, line: &[u8]) -> Result<Line, Wrong>
     ensures { result ≡ every_line servers line.now }
 {
     counted(line, 6)?;
-    let (server, work) = numbers_at(line, 2, 3)?;
-    let (offset, period) = numbers_at(line, 4, 5)?;
+    let server = number_at(line, 2)?;
+    let work = number_at(line, 3)?;
+    let offset = number_at(line, 4)?;
+    let period = number_at(line, 5)?;
     let deadline = deadline_at(line, 6, period)?;
     let release = Release::Every(offset, period);
     let read = Task {
