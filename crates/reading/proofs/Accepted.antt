@@ -7,7 +7,7 @@ use native.Mathlib.Omega.{arith}
 use lib.ListN.{length}
 use lib.Dec.{ltb, leb, eqb}
 use borrow.Author.Tests.{ltb-true, eqb-false, le-leb, lt-leb}
-use Rattle.std.specs.Prelude.{Option, Some, None, Result, Ok, IfOk}
+use Rattle.std.specs.Prelude.{Option, Some, None, Result, Ok, IfOk, Err}
 use Rattle.std.proofs.lemmas.Result.{IfOk-weaker, IfOk-at_ok}
 use Rattle.basics.specs.Choice.{pick}
 use Rattle.basics.proofs.Tests.{and_left, and_right}
@@ -19,13 +19,13 @@ use Rattle.table.proofs.Spans.{SearchSays, span_says}
 use Rattle.table.specs.declared.Table.{Table}
 use Rattle.fields.specs.Fields.{lines_of}
 use Rattle.lines.specs.Lines.{line_of}
-use Rattle.reading.specs.Reading.{no_table, refusal, accepted, with_span, resolved, ended_of, after_line, read_lines, ends_with_feed, reading_of}
-use Rattle.reading.specs.Pieces.{with_line}
+use Rattle.reading.specs.Reading.{no_table, refusal, accepted, with_span, with_line, resolved, ended_of, after_line, read_lines, ends_with_feed, reading_of}
 use Rattle.refusals.specs.declared.Refusal.{Refusal}
 use Rattle.refusals.specs.declared.Ground.TheVariants as what
 use Rattle.lines.specs.declared.Line.{Line}
-use Rattle.lines.specs.declared.Line.TheVariants.{SpanIs, ServerIs, TaskIs, Wrong}
-use Rattle.reading.proofs.Rows.{InRules, Sized, Says, line_says, rules_kept, sized_kept, none_yet, none_sized}
+use Rattle.lines.specs.declared.Line.TheVariants.{SpanIs, ServerIs, TaskIs}
+use Rattle.lines.specs.declared.Wrong.{Wrong}
+use Rattle.reading.proofs.Rows.{InRules, Sized, Says, Told, line_says, rules_kept, sized_kept, none_yet, none_sized}
 
 -- ---- an accepted table obeys the rules, and its arrays have their lengths
 
@@ -83,23 +83,21 @@ span_kept : (t : Table) (line : Line) → t.span ≤ 16000 → Says t.servers_n 
 span_kept t (SpanIs h) p s = s
 span_kept t (ServerIs x) p s = p
 span_kept t (TaskIs k) p s = p
-span_kept t (Wrong w place) p s = p
 
 so_far_kept : (t : Table) (line : Line) → SoFar t → Says t.servers_n t.tasks_n line → SoFar (with_line t line)
 so_far_kept t line k s = record { rules = rules_kept t line k.sized k.rules s; sized = sized_kept t line k.sized; span = span_kept t line k.span s }
 
-after_whole : (line : Line) (t : Table) (n : ℕ) (next : Table → Result Table Refusal) → IfOk (next (with_line t line)) Whole → IfOk (after_line line t n next) Whole
-after_whole (SpanIs h) t n next p = p
-after_whole (ServerIs x) t n next p = p
-after_whole (TaskIs k) t n next p = p
-after_whole (Wrong w place) t n next p = tt
+after_whole : (r : Result Line Wrong) (t : Table) (n : ℕ) (next : Table → Result Table Refusal) → SoFar t → Told t.servers_n t.tasks_n r
+    → ((u : Table) → SoFar u → IfOk (next u) Whole) → IfOk (after_line r t n next) Whole
+after_whole (Ok line) t n next k s h = h (with_line t line) (so_far_kept t line k s)
+after_whole (Err w) t n next k s h = tt
 
 lines_whole : (ls : List (List ℕ)) (t : Table) (n : ℕ) → SoFar t → IfOk (read_lines ls t n) Whole
 unfolding read_lines
 lines_whole [] t n k = ended_whole t n k
 lines_whole (l ∷ ls) t n k =
-    let line = line_of n t.servers_n t.tasks_n l in
-    after_whole line t n (λ u. read_lines ls u (n + 1)) (lines_whole ls (with_line t line) (n + 1) (so_far_kept t line k (line_says t.servers_n t.tasks_n n l)))
+    after_whole (line_of n t.servers_n t.tasks_n l) t n (λ u. read_lines ls u (n + 1)) k (line_says t.servers_n t.tasks_n n l)
+    (λ u v. lines_whole ls u (n + 1) v)
 
 read_whole : (text : List ℕ) → IfOk (reading_of text) Whole
 read_whole text = go (leb (length text) 4096) (ends_with_feed text)

@@ -8,7 +8,7 @@ use native.Mathlib.Omega.{arith}
 use lib.ListN.{length}
 use lib.Dec.{ltb, leb, eqb}
 use borrow.Author.Tests.{leb-true}
-use Rattle.std.specs.Prelude.{Option, Some, None, Result, Err, IfErr}
+use Rattle.std.specs.Prelude.{Option, Some, None, Result, Ok, Err, IfErr}
 use Rattle.std.proofs.lemmas.Result.{IfErr-at_err}
 use Rattle.basics.specs.Choice.{pick}
 use Rattle.refusals.specs.Refusals.{last_number, last_place}
@@ -22,11 +22,10 @@ use Rattle.table.specs.declared.Table.{Table}
 use Rattle.fields.specs.Fields.{lines_of}
 use Rattle.lines.specs.Lines.{line_of}
 use Rattle.lines.specs.declared.Line.{Line}
-use Rattle.lines.specs.declared.Line.TheVariants.{SpanIs, ServerIs, TaskIs, Wrong}
-use Rattle.reading.specs.Reading.{no_table, refusal, accepted, resolved, ended_of, after_line, read_lines, ends_with_feed, reading_of}
-use Rattle.reading.specs.Pieces.{with_line}
+use Rattle.lines.specs.declared.Wrong.{Wrong}
+use Rattle.reading.specs.Reading.{no_table, refusal, accepted, with_line, resolved, ended_of, after_line, read_lines, ends_with_feed, reading_of}
 use Rattle.reading.proofs.LineCounts.{lines_most}
-use Rattle.reading.proofs.Rows.{Says, line_says}
+use Rattle.reading.proofs.Rows.{Told, line_says}
 
 -- what is known of a refused reading; no line is above `last`
 pub record TurnedAway (last : ℕ) (r : Refusal) : Type 0 where
@@ -57,20 +56,18 @@ module _ (last : ℕ) where
       go true false = tt
       go false e = refusal_told ground.Missing n 0 h (omega arith)
 
-  after_told : (line : Line) (t : Table) (n : ℕ) (next : Table → Result Table Refusal) → Says t.servers_n t.tasks_n line → n ≤ last
-      → TellsAll last (next (with_line t line)) → TellsAll last (after_line line t n next)
-  after_told (SpanIs h) t n next s l p = p
-  after_told (ServerIs k) t n next s l p = p
-  after_told (TaskIs k) t n next s l p = p
-  after_told (Wrong g place) t n next s l p = refusal_told g n place l s
+  after_told : (r : Result Line Wrong) (t : Table) (n : ℕ) (next : Table → Result Table Refusal) → Told t.servers_n t.tasks_n r → n ≤ last
+      → ((u : Table) → TellsAll last (next u)) → TellsAll last (after_line r t n next)
+  after_told (Ok line) t n next s l p = p (with_line t line)
+  after_told (Err w) t n next s l p = refusal_told w.ground n w.place l s
 
   -- what is missing is missed on the line after the last
   lines_told : (ls : List (List ℕ)) (t : Table) (n : ℕ) → n + length ls ≤ last → TellsAll last (read_lines ls t n)
   unfolding read_lines
   lines_told [] t n h = ended_told t n (omega arith)
   lines_told (l ∷ ls) t n h =
-      let line = line_of n t.servers_n t.tasks_n l in
-      after_told line t n (λ u. read_lines ls u (n + 1)) (line_says t.servers_n t.tasks_n n l) (omega arith) (lines_told ls (with_line t line) (n + 1) (omega arith))
+      after_told (line_of n t.servers_n t.tasks_n l) t n (λ u. read_lines ls u (n + 1)) (line_says t.servers_n t.tasks_n n l) (omega arith)
+      (λ u. lines_told ls u (n + 1) (omega arith))
 
 -- "at most 4,096 bytes"
 reading_told : (text : List ℕ) → TellsAll 4097 (reading_of text)

@@ -13,7 +13,8 @@ use Rattle.refusals.specs.declared.Refusal.{Refusal}
 use Rattle.refusals.specs.declared.Ground.{Ground}
 use Rattle.refusals.specs.declared.Ground.TheVariants as what
 use Rattle.lines.specs.declared.Line.{Line}
-use Rattle.lines.specs.declared.Line.TheVariants.{SpanIs, ServerIs, TaskIs, Wrong}
+use Rattle.lines.specs.declared.Line.TheVariants.{SpanIs, ServerIs, TaskIs}
+use Rattle.lines.specs.declared.Wrong.{Wrong}
 
 -- the table before its first line; a span of 0 is not known yet
 abbrev pub no_table : Table
@@ -37,6 +38,11 @@ abbrev pub with_task : Table → Task → Table
 with_task t k =
     record { span = t.span; servers_n = t.servers_n; tasks_n = t.tasks_n + 1; servers = t.servers; tasks = set t.tasks t.tasks_n k }
 
+abbrev pub with_line : Table → Line → Table
+with_line t (SpanIs h) = with_span t h
+with_line t (ServerIs s) = with_server t s
+with_line t (TaskIs k) = with_task t k
+
 -- "`-` in `span` means the least common multiple"; 8: it "is above 16,000"
 abbrev pub resolved : Table → Option ℕ → Result Table Refusal
 resolved t (Some h) = accepted (with_span t h)
@@ -50,11 +56,9 @@ ended_of t line =
     (refusal what.Missing line 0)
 
 -- "line by line": a table, and the lines that are still to come, of which the first is line n
-abbrev pub after_line : Line → Table → ℕ → (Table → Result Table Refusal) → Result Table Refusal
-after_line (SpanIs h) t n next = next (with_span t h)
-after_line (ServerIs s) t n next = next (with_server t s)
-after_line (TaskIs k) t n next = next (with_task t k)
-after_line (Wrong w place) t n next = refusal w n place
+abbrev pub after_line : Result Line Wrong → Table → ℕ → (Table → Result Table Refusal) → Result Table Refusal
+after_line (Ok line) t n next = next (with_line t line)
+after_line (Err wrong) t n next = refusal wrong.ground n wrong.place
 
 unfoldable pub read_lines : List (List ℕ) → Table → ℕ → Result Table Refusal
 read_lines [] t n = ended_of t n

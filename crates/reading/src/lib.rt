@@ -1,12 +1,12 @@
 // Reading: from a table's text to the table, or to what is wrong with it, in which line and at which place.
 #![tactic(auto)]
 
-ghost use Rattle.std.specs.Prelude.{◌≡◌, ◌≤◌, length};
-ghost use Rattle.reading.specs.Reading.{no_table, ended_of, read_lines, reading_of};
-ghost use Rattle.reading.specs.Pieces.{Feeds};
-ghost use Rattle.fields.specs.Fields.{lines_of};
+ghost use Rattle.std.specs.Prelude.{◌≡◌, ◌<◌, length};
+ghost use Rattle.reading.specs.Reading.{no_table, with_line, ended_of, read_lines, reading_of};
+ghost use Rattle.reading.specs.Pieces.{told, HasRoom};
+ghost use Rattle.lines.specs.Lines.{line_of};
+ghost use Rattle.fields.specs.Fields.{split};
 
-use fields::parting::piece_length;
 use lines::{Line, read_line};
 use refusals::{Ground, Refusal, refused_at};
 use table::multiples::common_span;
@@ -50,29 +50,42 @@ fn ended(table: Table, line: u32) -> Result<Table, Refusal>
     Ok(Table { span, ..table })
 }
 
-// Reads line after line: the part of the text that is still to come is handed on.
-fn read_lines(text: &[u8]) -> Result<Table, Refusal>
-    requires { Feeds text.now × (length text.now ≤ 4096) }
-    ensures { result ≡ read_lines (lines_of text.now) no_table 1 }
+// What line `n` says behind a table, or the refusal of the text.
+fn line_behind(table: &Table, n: u32, line: &[u8]) -> Result<Line, Refusal>
+    ensures { result ≡ told n (line_of n table.now.servers_n table.now.tasks_n line.now) }
+{
+    let said = read_line(line, n, table.servers_n, table.tasks_n);
+    said.map_err(|wrong| refused_at(wrong.ground, n, wrong.place))
+}
+
+// Adds what a line says to a table.
+fn add_line(table: &mut Table, line: Line)
+    requires { HasRoom table.old line }
+    ensures { table.new ≡ with_line table.old line }
+{
+    match line {
+        Line::SpanIs(span) => table.span = span,
+        Line::ServerIs(server) => {
+            table.servers[table.servers_n] = server;
+            table.servers_n += 1;
+        }
+        Line::TaskIs(task) => {
+            table.tasks[table.tasks_n] = task;
+            table.tasks_n += 1;
+        }
+    }
+}
+
+// Reads the lines of a text that ends with a line feed, one after the other; `lines` are the bytes before that line feed.
+fn read_lines(lines: &[u8]) -> Result<Table, Refusal>
+    requires { length lines.now < 4096 }
+    ensures { result ≡ read_lines (split 10 lines.now) no_table 1 }
 {
     let mut table = no_table();
-    let mut rest = text;
     let mut n: u32 = 1;
-    while !rest.is_empty() {
-        let end = piece_length(rest, b'\n');
-        match read_line(&rest[..end], n, table.servers_n, table.tasks_n) {
-            Line::SpanIs(span) => table.span = span,
-            Line::ServerIs(server) => {
-                table.servers[table.servers_n] = server;
-                table.servers_n += 1;
-            }
-            Line::TaskIs(task) => {
-                table.tasks[table.tasks_n] = task;
-                table.tasks_n += 1;
-            }
-            Line::Wrong(what, place) => return Err(refused_at(what, n, place)),
-        }
-        rest = &rest[end + 1..];
+    for line in lines.split(|byte| *byte == b'\n') {
+        let said = line_behind(&table, n, line)?;
+        add_line(&mut table, said);
         n += 1;
     }
     ended(table, n)
@@ -85,8 +98,8 @@ pub fn read(text: &[u8]) -> Result<Table, Refusal>
     if text.len() > 4096 {
         return Err(refused_at(Ground::TextTooLong, 0, 0));
     }
-    if text.last() != Some(&b'\n') {
+    let Some((b'\n', lines)) = text.split_last() else {
         return Err(refused_at(Ground::NotEnded, 0, 0));
-    }
-    read_lines(text)
+    };
+    read_lines(lines)
 }
