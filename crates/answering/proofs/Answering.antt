@@ -55,8 +55,8 @@ module _ (table : Table) (ok : Obeyed table) where
         record {
           all = ap length e.0 ∙ length-replicate 16 no_server_answer;
           answered = rw e.0 (noted_none (server_answer table) no_server_answer 16 (λ k. ltb k 0) (λ k. le-ltb k 0 (omega arith)));
-          marks = ap length e.1 ∙ length-replicate 64 false;
-          marked = rw e.1 (noted_none (holds_at table tick) false 64 (λ k. ltb k 0) (λ k. le-ltb k 0 (omega arith)));
+          marks = ap length e.1 ∙ length-replicate 16 false;
+          marked = rw e.1 (noted_none (holds_at table tick) false 16 (λ k. ltb k 0) (λ k. le-ltb k 0 (omega arith)));
         };
     tasks_noted =
         record {

@@ -4,14 +4,16 @@ use mathlib.Core.Path.{◌≡◌, refl, ap, ◌∙◌}
 use mathlib.Core.List.{List}
 use native.Mathlib.Omega.{arith}
 use native.Mathlib.Numerals.{add-one}
-use lib.ListN.{length, take}
+use lib.ListN.{length, take, get_or}
+use lib.Seq.{length-take-le, get_or-take}
 use Rattle.table.specs.declared.Table.{Table}
-use Rattle.table.specs.Places.{Obeyed}
+use Rattle.table.specs.Rules.{no_server, servers_of}
+use Rattle.table.specs.Places.{server_at, Obeyed}
 use Rattle.table.proofs.Obeyed.{span_most}
 use Rattle.schedule.specs.Curves.{free_of, held_in, held_of, without}
 use Rattle.schedule.proofs.FromCurves.{free_inside}
 use Rattle.buffers.specs.Parts.{Curve, Drawn, Wrote, with_window}
-use Rattle.demands.proofs.Additions.{plain_below, written_same}
+use Rattle.demands.proofs.Additions.{plain_below}
 use Rattle.demands.proofs.Sums.{written_curve}
 use Rattle.serving.proofs.ServerTicks.{span_drawn}
 
@@ -27,6 +29,14 @@ freed_starts table ok d =
     let w = span_drawn table.span (span_most table ok) d in
     record { within = omega arith; written = record { same = refl; count = w.count; front = w.front } }
 
+-- the servers within the count, one at a time
+module _ (table : Table) (ok : Obeyed table) (i : ℕ) (h : i < length (servers_of table)) where
+  pub counted : i < table.servers_n
+  counted = omega (arith, length-take-le table.servers_n table.servers ok.servers)
+
+  pub server_is : get_or (servers_of table) i no_server ≡ server_at table i
+  server_is = get_or-take table.servers_n table.servers i no_server counted
+
 -- what is known of a place is known of its number
 pub own_place : (table : Table) (i : ℕ) (l : List ℕ) → i < table.servers_n → l ≡ held_of table i
     → (k : ℕ) → i + 1 ≡ suc k → (k < table.servers_n) × (l ≡ held_of table k)
@@ -40,7 +50,7 @@ module _ (table : Table) (ok : Obeyed table) (first free : List ℕ) (n i : ℕ)
 
   -- the server's held ticks are written
   pub freed_held : {old new : List ℕ} {k : ℕ} → Wrote old new k (held_in table i (take n free)) → Wrote old new k (held_of table i)
-  freed_held v = written_same (ap (held_in table i) w.written.front) v
+  freed_held v = record { same = v.same; count = v.count; front = v.front ∙ ap (held_in table i) w.written.front }
 
   -- the next server has what it leaves
   pub freed_next : i < table.servers_n → {after : List ℕ} {m : ℕ} → Wrote free after m (without table.span (take n free) (held_in table i (take n free)))

@@ -16,13 +16,13 @@ holds_at table t i = ltb 0 (cover (held_of table i) t)
 pub record ServersNoted (table : Table) (tick : ℕ) (test : ℕ → Bool) (notes : ServerNotes) : Type 0 where
   pub all : length notes.answers ≡ 16
   pub answered : Noted (server_answer table) no_server_answer test notes.answers
-  pub marks : length notes.holds ≡ 64
+  pub marks : length notes.holds ≡ 16
   pub marked : Noted (holds_at table tick) false test notes.holds
 
 -- nothing is noted
 abbrev pub NoNotes : Notes → Type 0
 NoNotes notes =
-    (notes.servers.answers ≡ replicate 16 no_server_answer) × (notes.servers.holds ≡ replicate 64 false)
+    (notes.servers.answers ≡ replicate 16 no_server_answer) × (notes.servers.holds ≡ replicate 16 false)
     × (notes.tasks.answers ≡ replicate 64 no_task_answer) × (notes.tasks.runs ≡ replicate 64 false)
 
 -- all are

@@ -5,7 +5,7 @@ ghost use Rattle.std.specs.Prelude.{◌≡◌, false, ◌≤◌, length, get_or}
 ghost use Rattle.table.specs.Places.{Obeyed, first_of};
 ghost use Rattle.answering.specs.Noted.{NoNotes, AllNoted};
 
-use answers::{Response, ServerAnswer, Short, TaskAnswer};
+use answers::{Response, ServerAnswer};
 use buffers::put;
 use judging::covering::covers;
 use judging::periods::answer_server;
@@ -13,11 +13,12 @@ use noting::{TaskNotes, answer_tasks};
 use serving::hold_server;
 use table::Table;
 
-// What is noted of the servers: each one's answer, and whether it holds the tick asked for.
+// What is noted of the servers: each one's answer, and whether it holds the tick asked for. Two arrays, and not one of pairs: the answers
+// go into an analysis as they are, and the marks alone are searched.
 #[derive(Clone, Copy)]
 pub struct ServerNotes {
     pub answers: [ServerAnswer; 16],
-    pub holds: [bool; 64],
+    pub holds: [bool; 16],
 }
 
 #[derive(Clone, Copy)]
@@ -32,17 +33,14 @@ pub fn no_notes() -> Notes
 {
     let no_server = ServerAnswer {
         full: 0,
-        short: Short::Never,
-    };
-    let no_task = TaskAnswer {
-        response: Response::None,
+        short: None,
     };
     let servers = ServerNotes {
         answers: [no_server; 16],
-        holds: [false; 64],
+        holds: [false; 16],
     };
     let tasks = TaskNotes {
-        answers: [no_task; 64],
+        answers: [Response::None; 64],
         runs: [false; 64],
     };
     Notes { servers, tasks }
@@ -61,44 +59,37 @@ pub fn answer_all(
 ) -> Notes
     requires { Obeyed table × (16000 ≤ length free.old) × (16000 ≤ length sum.old) × (16000 ≤ length part.old) × (16000 ≤ length held.old)
         × (16000 ≤ length running.old) × (16000 ≤ length spare.old) }
-    ensures { AllNoted table tick result
-        × (length free.new ≡ length free.old) × (length sum.new ≡ length sum.old)
-        × (length part.new ≡ length part.old) × (length held.new ≡ length held.old)
-        × (length running.new ≡ length running.old) × (length spare.new ≡ length spare.old) }
+    ensures { AllNoted table tick result }
 {
-    let none = no_notes();
-    let mut servers = none.servers;
-    let mut tasks = none.tasks;
-    let count = table.servers_n;
-    let span = table.span;
-    let mut n = put(free, 0, 0, span);
-    let mut i: usize = 0;
-    while i < count {
-        let server = table.servers[i];
-        let answer = answer_server(server, span, &free[..n]);
-        servers.answers[i] = answer;
+    let mut notes = no_notes();
+    let mut n = put(free, 0, 0, table.span);
+    for (i, server) in table.servers[..table.servers_n].iter().enumerate() {
+        notes.servers.answers[i] = answer_server(*server, table.span, &free[..n]);
         let counts = hold_server(table, i, n, free, sum, part, held, spare);
-        let k = counts.held;
-        servers.holds[i] = covers(&held[..k], tick);
-        let number = (i as u32) + 1;
-        tasks = answer_tasks(table, tick, number, k, held, part, running, spare, tasks);
+        notes.servers.holds[i] = covers(&held[..counts.taken], tick);
+        answer_tasks(
+            table,
+            tick,
+            i as u32 + 1,
+            counts.taken,
+            held,
+            part,
+            running,
+            spare,
+            &mut notes.tasks,
+        );
         n = counts.left;
-        i += 1;
     }
-    Notes { servers, tasks }
+    notes
 }
 
-// The number of the first of `count` places that is marked, or 0.
-pub fn first_marked(marks: [bool; 64], count: usize) -> u32
-    requires { count ≤ 64 }
-    ensures { result ≡ first_of (λ i. get_or marks i false) count 0 }
+// The number of the first place that is marked, or 0.
+pub fn first_marked(marks: &[bool]) -> u32
+    requires { length marks.now ≤ 64 }
+    ensures { result ≡ first_of (λ i. get_or marks.now i false) (length marks.now) 0 }
 {
-    let mut i: usize = 0;
-    while i < count {
-        if marks[i] {
-            return (i as u32) + 1;
-        }
-        i += 1;
+    match marks.iter().position(|mark| *mark) {
+        Some(i) => i as u32 + 1,
+        None => 0,
     }
-    0
 }

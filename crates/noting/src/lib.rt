@@ -13,6 +13,7 @@ use serving::share;
 use table::Table;
 
 // What is noted of the tasks: each one's answer, and whether it runs in the tick asked for. Those not yet looked at are `None` and false.
+// Two arrays, and not one of pairs: the answers go into an analysis as they are, and the marks alone are searched.
 #[derive(Clone, Copy)]
 pub struct TaskNotes {
     pub answers: [Response; 64],
