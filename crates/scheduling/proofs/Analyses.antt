@@ -43,7 +43,7 @@ pub analysis_sized : (text : List ℕ) (a : Analysis) → analysis_of text true 
 analysis_sized text a q = go (reading_of text) refl
   where
     go : (x : Result Table Refusal) → reading_of text ≡ x → Sized a
-    go (Ok table) e = let is : analysed table ≡ a = cc (rw e at q) in subst Sized is (answered_sized table (accepted_obeyed text table e))
+    go (Ok table) e = let is : analysed table ≡ a = cc (rw e at q) in subst Sized is (answered_sized table (accepted_obeyed text e))
     go (Err refusal) e = absurd (cc (rw e at q))
 
 -- ---- the entry at a place is the answer of the server or the task there
@@ -76,7 +76,7 @@ pub analysis_within : (text : List ℕ) (a : Analysis) → analysis_of text true
 analysis_within text a q = go (reading_of text) refl
   where
     go : (x : Result Table Refusal) → reading_of text ≡ x → Within a
-    go (Ok table) e = let is : analysed table ≡ a = cc (rw e at q) in subst Within is (answered_within table (accepted_obeyed text table e))
+    go (Ok table) e = let is : analysed table ≡ a = cc (rw e at q) in subst Within is (answered_within table (accepted_obeyed text e))
     go (Err refusal) e = absurd (cc (rw e at q))
 
 pub refusal_within : (text : List ℕ) (r : Refusal) → analysis_of text true ≡ Err r → RefusalWithin r
@@ -100,4 +100,4 @@ analysed_says table ok = record {
 -- demand 3, its second half: for every accepted text, with room enough, the answers are those of the machine's run
 pub analysis_is_machine : (text : List ℕ) (table : Table) → reading_of text ≡ Ok table
     → (analysis_of text true ≡ Ok (analysed table)) × Says table (analysed table)
-analysis_is_machine text table e = (rw e, analysed_says table (accepted_obeyed text table e))
+analysis_is_machine text table e = (rw e, analysed_says table (accepted_obeyed text e))

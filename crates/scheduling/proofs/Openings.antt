@@ -1,13 +1,15 @@
 -- What the opening of a call tells: where a table comes out the text is accepted and the tick lies in the span, and elsewhere the call is refused
 -- so. Assumes nothing.
 use Prim.Native.Nat.{ℕ, ◌≤◌, ◌<◌}
-use mathlib.Core.Path.{◌≡◌, refl, sym, ap, ◌∙◌}
+use mathlib.Core.Path.{◌≡◌, refl, sym, ap, subst, ◌∙◌}
 use mathlib.Core.List.{List}
 use mathlib.Core.Bool.{Bool, true, false}
 use native.Mathlib.Omega.{arith}
 use lib.Dec.{leb}
 use borrow.Author.Tests.{leb-true, leb-false}
 use Rattle.std.specs.Prelude.{Result, Ok, Err}
+use Rattle.refusals.specs.Refusals.{refused_for}
+use Rattle.refusals.specs.declared.Ground.TheVariants.{OutOfStep, WorkRoom}
 use Rattle.refusals.specs.declared.Refusal.{Refusal}
 use Rattle.table.specs.declared.Table.{Table}
 use Rattle.table.specs.Places.{Obeyed}
@@ -35,7 +37,7 @@ module _ (text : List ℕ) (tick : ℕ) where
   accepted_way table e false h =
       ready table (record { roomy = refl; accepted = e; within = leb-false table.span tick h }) (rw (e, h))
   accepted_way table e true h =
-      refused _ (rw (e, h)) (rw (e, h)) (λ z. absurd (omega (arith, span_some table (accepted_obeyed text table e), leb-true table.span tick h)))
+      refused (refused_for OutOfStep) (rw (e, h)) (rw (e, h)) (λ z. absurd (omega (arith, span_some table (accepted_obeyed text e), leb-true table.span tick h)))
 
   read_way : (x : Result Table Refusal) → reading_of text ≡ x → Way true
   read_way (Ok table) e = accepted_way table e (leb table.span tick) refl
@@ -43,7 +45,7 @@ module _ (text : List ℕ) (tick : ℕ) where
 
   pub way : (room : Bool) → Way room
   way true = read_way (reading_of text) refl
-  way false = refused _ refl refl (λ z. refl)
+  way false = refused (refused_for WorkRoom) refl refl (λ z. refl)
 
   -- where a table comes out it is ready
   pub ready_by : (room : Bool) (table : Table) → opened_of text tick room ≡ Ok table → Ready room table
@@ -55,7 +57,7 @@ module _ (text : List ℕ) (tick : ℕ) where
 
   -- and the table obeys the rules
   pub ready_obeyed : (room : Bool) (table : Table) → opened_of text tick room ≡ Ok table → Obeyed table
-  ready_obeyed room table e = accepted_obeyed text table (ready_by room table e).accepted
+  ready_obeyed room table e = accepted_obeyed text (ready_by room table e).accepted
 
   -- a refused call is refused so
   pub refused_who : (room : Bool) (refusal : Refusal) → opened_of text tick room ≡ Err refusal → who_of text tick room ≡ Err refusal

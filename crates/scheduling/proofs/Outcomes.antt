@@ -56,5 +56,5 @@ analyses_once text a b c d e f p o = let same = p.answer ∙ sym o.answer in sam
 pub who_is_machine : (text : List ℕ) (tick : ℕ) (table : Table) → reading_of text ≡ Ok table → tick < table.span
     → who_of text tick true ≡ Ok (record { holder = holder_at table tick; runner = runner_at table tick })
 who_is_machine text tick table e h =
-    let ok = accepted_obeyed text table e in
+    let ok = accepted_obeyed text e in
     rw (e, lt-leb table.span tick h, holder_agrees table ok tick h, runner_agrees table ok tick h)

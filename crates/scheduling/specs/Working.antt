@@ -1,5 +1,5 @@
 -- What the private functions make of a text, a tick and six work buffers.
-use Rattle.std.specs.Prelude.{ℕ, ◌≡◌, ◌×◌, List, Bool, false, Result, Ok, Err, get_or}
+use Rattle.std.specs.Prelude.{ℕ, ◌≡◌, List, Bool, false, Result, Ok, Err, get_or}
 use Rattle.table.specs.Places.{first_of}
 use Rattle.answers.specs.declared.Analysis.{Analysis}
 use Rattle.refusals.specs.declared.Refusal.{Refusal}

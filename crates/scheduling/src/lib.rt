@@ -76,12 +76,14 @@ fn listed(worked: Worked) -> Analysis
     ensures { result ≡ listed_by worked }
 {
     let Worked { table, notes } = worked;
+    let servers = notes.servers.answers;
+    let tasks = notes.tasks.answers;
     Analysis {
         span: table.span,
         servers_n: table.servers_n,
         tasks_n: table.tasks_n,
-        servers: notes.servers.answers,
-        tasks: notes.tasks.answers,
+        servers,
+        tasks,
     }
 }
 
