@@ -7,8 +7,9 @@ use mathlib.Core.Bool.{Bool, true, false, true≢false}
 use native.Mathlib.Omega.{arith}
 use lib.Dec.{ltb}
 use borrow.Author.Tests.{ltb-true, ltb-false}
+use Rattle.std.specs.Prelude.{Option, Some, None}
 use Rattle.basics.specs.Choice.{pick}
-use Rattle.windows.specs.Windows.{Instant, at, not_provided, provide}
+use Rattle.windows.specs.Windows.{provide}
 use Rattle.answers.specs.Answers.{Verdict, worst, unfinished, none, worse, after_job, judged}
 
 -- ---- outcomes, told apart
@@ -34,9 +35,9 @@ release_in (unfinished q) = q
 release_in none = 0
 
 -- the instant of an answer, and 0 if there is none
-abbrev pub instant_of : Instant → ℕ
-instant_of (at t) = t
-instant_of not_provided = 0
+abbrev pub instant_of : Option ℕ → ℕ
+instant_of (Some t) = t
+instant_of None = 0
 
 -- ---- jobs, numbered from j on
 
@@ -59,13 +60,13 @@ module _ (running : List ℕ) (work : ℕ) where
 
   -- job n ends
   abbrev pub Finishes : ℕ → Type 0
-  Finishes n = provide running (n * work) ≡ at (finish n)
+  Finishes n = provide running (n * work) ≡ Some (finish n)
 
-  finish_is : (n t : ℕ) → provide running (n * work) ≡ at t → finish n ≡ t
+  finish_is : (n t : ℕ) → provide running (n * work) ≡ Some t → finish n ≡ t
   finish_is n t e = ap instant_of e
 
-  finishes : (n t : ℕ) → provide running (n * work) ≡ at t → Finishes n
-  finishes n t e = e ∙ ap at (sym (finish_is n t e))
+  finishes : (n t : ℕ) → provide running (n * work) ≡ Some t → Finishes n
+  finishes n t e = e ∙ ap Some (sym (finish_is n t e))
 
   -- job n, released at r, ends with a response of m at most
   pub record Met (m n r : ℕ) : Type 0 where
@@ -87,7 +88,7 @@ module _ (running : List ℕ) (work : ℕ) where
 
   -- ---- one job more in front
 
-  module _ (j t r : ℕ) (rs : List ℕ) (e : provide running (j * work) ≡ at t) where
+  module _ (j t r : ℕ) (rs : List ℕ) (e : provide running (j * work) ≡ Some t) where
     -- it is the first to have the response
     front_attains : (m q : ℕ) → t - r ≡ m → r ≡ q → Attained j (r ∷ rs) m q
     unfolding JobFrom
@@ -148,7 +149,7 @@ module _ (running : List ℕ) (work : ℕ) where
   worst_kept none j m q e = absurd (true≢false (sym (ap is_worst e)))
 
   -- one job more in front
-  worst_front : (sofar : Verdict) (j t r : ℕ) (rs : List ℕ) (m q : ℕ) → provide running (j * work) ≡ at t
+  worst_front : (sofar : Verdict) (j t r : ℕ) (rs : List ℕ) (m q : ℕ) → provide running (j * work) ≡ Some t
       → WorstOf (worse sofar (t - r) r) (suc j) rs m q → WorstOf sofar j (r ∷ rs) m q
   unfolding JobFrom
   worst_front sofar j t r rs m q e w = record { all = each; from = from_front j t r rs e sofar m q w.from }
@@ -164,18 +165,18 @@ module _ (running : List ℕ) (work : ℕ) where
   worst_of [] sofar j m q e = worst_kept sofar j m q e
   worst_of (r ∷ rs) sofar j m q e = go (provide running (j * work)) refl e (λ t. worst_of rs (worse sofar (t - r) r) (suc j) m q)
     where
-      go : (x : Instant) → provide running (j * work) ≡ x → after_job x r sofar (judged running work (suc j) rs) ≡ worst m q
+      go : (x : Option ℕ) → provide running (j * work) ≡ x → after_job x r sofar (judged running work (suc j) rs) ≡ worst m q
           → ((t : ℕ) → judged running work (suc j) rs (worse sofar (t - r) r) ≡ worst m q → WorstOf (worse sofar (t - r) r) (suc j) rs m q)
           → WorstOf sofar j (r ∷ rs) m q
-      go (at t) i e ih = worst_front sofar j t r rs m q i (ih t e)
-      go not_provided i e ih = absurd (true≢false (sym (ap is_worst e)))
+      go (Some t) i e ih = worst_front sofar j t r rs m q i (ih t e)
+      go None i e ih = absurd (true≢false (sym (ap is_worst e)))
 
   -- ---- the first job that does not end
 
   pub record UnfinishedOf (j : ℕ) (rs : List ℕ) (q : ℕ) : Type 0 where
     pub job : ℕ
     pub released : JobFrom j rs job q
-    pub short : provide running (job * work) ≡ not_provided
+    pub short : provide running (job * work) ≡ None
     pub before : (n r : ℕ) → JobFrom j rs n r → n < job → Finishes n
 
   -- nothing is unfinished so far
@@ -194,7 +195,7 @@ module _ (running : List ℕ) (work : ℕ) where
       go false = refl
 
   -- the job in front is the first
-  front_unfinished : (j r : ℕ) (rs : List ℕ) (q : ℕ) → provide running (j * work) ≡ not_provided → r ≡ q → UnfinishedOf j (r ∷ rs) q
+  front_unfinished : (j r : ℕ) (rs : List ℕ) (q : ℕ) → provide running (j * work) ≡ None → r ≡ q → UnfinishedOf j (r ∷ rs) q
   unfolding JobFrom
   front_unfinished j r rs q e i = record {
     job = j;
@@ -204,7 +205,7 @@ module _ (running : List ℕ) (work : ℕ) where
   }
 
   -- a later one is
-  later_unfinished : (j t r : ℕ) (rs : List ℕ) (q : ℕ) → provide running (j * work) ≡ at t → UnfinishedOf (suc j) rs q → UnfinishedOf j (r ∷ rs) q
+  later_unfinished : (j t r : ℕ) (rs : List ℕ) (q : ℕ) → provide running (j * work) ≡ Some t → UnfinishedOf (suc j) rs q → UnfinishedOf j (r ∷ rs) q
   unfolding JobFrom
   later_unfinished j t r rs q e u = record { job = u.job; released = inr u.released; short = u.short; before = sooner }
     where
@@ -219,11 +220,11 @@ module _ (running : List ℕ) (work : ℕ) where
   unfinished_of (r ∷ rs) sofar j q s e =
       go (provide running (j * work)) refl e (λ t. unfinished_of rs (worse sofar (t - r) r) (suc j) q (settled_worse sofar (t - r) r s))
     where
-      go : (x : Instant) → provide running (j * work) ≡ x → after_job x r sofar (judged running work (suc j) rs) ≡ unfinished q
+      go : (x : Option ℕ) → provide running (j * work) ≡ x → after_job x r sofar (judged running work (suc j) rs) ≡ unfinished q
           → ((t : ℕ) → judged running work (suc j) rs (worse sofar (t - r) r) ≡ unfinished q → UnfinishedOf (suc j) rs q)
           → UnfinishedOf j (r ∷ rs) q
-      go (at t) i e ih = later_unfinished j t r rs q i (ih t e)
-      go not_provided i e ih = front_unfinished j r rs q i (ap release_in e)
+      go (Some t) i e ih = later_unfinished j t r rs q i (ih t e)
+      go None i e ih = front_unfinished j r rs q i (ap release_in e)
 
   -- ---- no job
 
@@ -242,10 +243,10 @@ module _ (running : List ℕ) (work : ℕ) where
   some_stays [] sofar j s = s
   some_stays (r ∷ rs) sofar j s = go (provide running (j * work)) (λ t. some_stays rs (worse sofar (t - r) r) (suc j) (some_worse sofar (t - r) r))
     where
-      go : (x : Instant) → ((t : ℕ) → is_none (judged running work (suc j) rs (worse sofar (t - r) r)) ≡ false)
+      go : (x : Option ℕ) → ((t : ℕ) → is_none (judged running work (suc j) rs (worse sofar (t - r) r)) ≡ false)
           → is_none (after_job x r sofar (judged running work (suc j) rs)) ≡ false
-      go (at t) ih = ih t
-      go not_provided ih = refl
+      go (Some t) ih = ih t
+      go None ih = refl
 
   -- where there is none at the end, there is no job
   pub none_of_lem : (rs : List ℕ) (sofar : Verdict) (j : ℕ) → judged running work j rs sofar ≡ none → rs ≡ []
@@ -253,6 +254,6 @@ module _ (running : List ℕ) (work : ℕ) where
   none_of_lem [] sofar j e = refl
   none_of_lem (r ∷ rs) sofar j e = absurd (go (provide running (j * work)) e)
     where
-      go : (x : Instant) → after_job x r sofar (judged running work (suc j) rs) ≡ none → ⊥
-      go (at t) e = true≢false (sym (ap is_none e) ∙ some_stays rs (worse sofar (t - r) r) (suc j) (some_worse sofar (t - r) r))
-      go not_provided e = true≢false (sym (ap is_none e))
+      go : (x : Option ℕ) → after_job x r sofar (judged running work (suc j) rs) ≡ none → ⊥
+      go (Some t) e = true≢false (sym (ap is_none e) ∙ some_stays rs (worse sofar (t - r) r) (suc j) (some_worse sofar (t - r) r))
+      go None e = true≢false (sym (ap is_none e))

@@ -8,8 +8,9 @@ use native.Mathlib.Omega.{arith}
 use native.Mathlib.Nat.{one-le-mul}
 use native.Mathlib.Decide.{dec_le, ℕ_discrete}
 use lib.ListN.{length, get_or}
+use Rattle.std.specs.Prelude.{Some, None}
 use Rattle.basics.specs.Choice.{pick}
-use Rattle.windows.specs.Windows.{cover, upto, at, not_provided, provide}
+use Rattle.windows.specs.Windows.{cover, upto, provide}
 use Rattle.windows.proofs.Counts.{upto_same}
 use Rattle.windows.proofs.Providing.{provide_says, provide_reached}
 use Rattle.table.specs.declared.Release.{Release}
@@ -93,7 +94,7 @@ module _ (table : Table) (ok : Obeyed table) (k : ℕ) (h : k < table.tasks_n) w
   runs_count t l = upto_same (cover curve) (runs_in table k) t (λ u m. runs_cover u (omega arith))
 
   -- a job that is provided ends
-  provided_ends : (n t : ℕ) → 1 ≤ n → provide curve (n * work) ≡ at t → Ends table k n t
+  provided_ends : (n t : ℕ) → 1 ≤ n → provide curve (n * work) ≡ Some t → Ends table k n t
   provided_ends n t s e = record { within = in_span; ran = sym (runs_count t in_span) ∙ reached.0; last = ticks }
     where
       reached : (upto (cover curve) t ≡ n * work) × (cover curve (t - 1) ≡ 1)
@@ -112,7 +113,7 @@ module _ (table : Table) (ok : Obeyed table) (k : ℕ) (h : k < table.tasks_n) w
           sym (runs_cover u (omega (arith, in_span))) ∙ (rw p at reached.1)
 
   -- one that is not is short at the end of the span
-  not_provided_short : (n : ℕ) → 1 ≤ n → provide curve (n * work) ≡ not_provided → upto (runs_in table k) table.span < n * work
+  not_provided_short : (n : ℕ) → 1 ≤ n → provide curve (n * work) ≡ None → upto (runs_in table k) table.span < n * work
   not_provided_short n s e =
       let w = provide_says curve (n * work) 0 (running_inside table ok k h).apart (one-le-mul s (task_some table ok k h)) in
       let v : (j : ℕ) → upto (cover curve) j < n * work = rw e at w in

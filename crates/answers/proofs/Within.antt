@@ -10,6 +10,7 @@ use lib.IntN.{nat_abs}
 use lib.ListN.{length, get_or}
 use Rattle.basics.specs.Choice.{pick}
 use Rattle.refusals.specs.Refusals.{last_number, last_place}
+use Rattle.refusals.specs.declared.Refusal.{Refusal}
 use Rattle.table.specs.declared.Release.{Release}
 use Rattle.table.specs.declared.Table.{Table}
 use Rattle.table.specs.Places.{server_at, task_at, Obeyed}
@@ -47,11 +48,14 @@ pub record ServerWithin (answer : ServerAnswer) : Type 0 where
   pub full : answer.full ≤ 16000
   pub short : ShortWithin answer.short
 
--- all that an analysis counts, and the refusal of a text of at most 4,096 lines
+-- the refusal of a text of at most 4,096 lines
+pub record RefusalWithin (r : Refusal) : Type 0 where
+  pub number : r.number ≤ last_number
+  pub line : r.line ≤ 4097
+  pub place : r.place ≤ last_place
+
+-- all that an analysis counts
 pub record Within (a : Analysis) : Type 0 where
-  pub number : a.refusal.number ≤ last_number
-  pub line : a.refusal.line ≤ 4097
-  pub place : a.refusal.place ≤ last_place
   pub span : a.span ≤ 16000
   pub of_server : (i : ℕ) → i < a.servers_n → ServerWithin (get_or a.servers i no_server_answer)
   pub of_task : (k : ℕ) → k < a.tasks_n → ResponseWithin (get_or a.tasks k no_task_answer)

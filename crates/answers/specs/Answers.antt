@@ -1,8 +1,8 @@
 -- Document 01, 'Servers, one tick at a time' and 'What the report program prints': worst response, unfinished or none of a task, full and short
 -- periods of a server.
-use Rattle.std.specs.Prelude.{ℕ, zero, suc, ◌-◌, ◌*◌, ◌/◌, List, [], ◌∷◌, ltb, Option, Some, None, ℤ, pos, ◌-ℤ◌}
+use Rattle.std.specs.Prelude.{ℕ, zero, suc, ◌-◌, ◌*◌, ◌/◌, List, [], ◌∷◌, ltb, ℤ, pos, ◌-ℤ◌, Option, Some, None}
 use Rattle.basics.specs.Choice.{pick}
-use Rattle.windows.specs.Windows.{upto, cover, Instant, at, not_provided, provide}
+use Rattle.windows.specs.Windows.{upto, cover, provide}
 use Rattle.table.specs.declared.Server.{Server}
 use Rattle.table.specs.declared.Table.{Table}
 use Rattle.table.specs.Places.{server_at, task_at, first_of}
@@ -27,9 +27,9 @@ worse none n r = worst n r
 
 -- "Jobs of one task are served in order of release: job j (from 1) ends when the task has run j times its work." Of the jobs from j on, with
 -- their releases; `next` is what comes of the later ones
-abbrev pub after_job : Instant → ℕ → Verdict → (Verdict → Verdict) → Verdict
-after_job (at t) r sofar next = next (worse sofar (t - r) r)
-after_job not_provided r sofar next = unfinished r
+abbrev pub after_job : Option ℕ → ℕ → Verdict → (Verdict → Verdict) → Verdict
+after_job (Some t) r sofar next = next (worse sofar (t - r) r)
+after_job None r sofar next = unfinished r
 
 unfoldable pub judged : List ℕ → ℕ → ℕ → List ℕ → Verdict → Verdict
 judged running work j [] sofar = sofar

@@ -1,8 +1,6 @@
 // What the report says of each task and each server: the answers' types, their definitions (specs/) and laws (proofs/).
 #![tactic(auto)]
 
-use refusals::Refusal;
-
 // The worst response, the release of the first job that attains it, and the margin.
 #[derive(Clone, Copy)]
 pub struct WorstJob {
@@ -26,11 +24,9 @@ pub struct ServerAnswer {
     pub short: Option<u32>,
 }
 
-// The answers of a table's servers and tasks, as many as it has, and its span; those beyond its counts have no periods and are `None`. Or
-// a refusal, with no answers.
+// The answers of a table's servers and tasks, as many as it has, and its span; those beyond its counts have no periods and are `None`.
 #[derive(Clone, Copy)]
 pub struct Analysis {
-    pub refusal: Refusal,
     pub span: u32,
     pub servers_n: usize,
     pub tasks_n: usize,

@@ -9,7 +9,7 @@ ghost use Rattle.demands.specs.Walks.{TaskObeyed, StartsBelow};
 
 use crate::releasing::demand;
 use table::{Table, Task};
-use walks::adding;
+use walks::adding::Sum;
 
 // Cuts off what lies at the end of a span or later, of a curve whose windows all start before it.
 fn cut_off(curve: &mut [u32], span: u32)
@@ -27,7 +27,7 @@ fn add_below(a: &[u32], b: &[u32], span: u32, out: &mut [u32]) -> usize
     ensures wrote { Wrote out.old out.new result (below span (add_up a.now b.now)) }
     ensures fits { result ≤ 16000 }
 {
-    let n = adding::write(a, b, out);
+    let n = walks::write(Sum::of(a, b), out);
     cut_off(&mut out[..n], span);
     n
 }

@@ -1,3 +1,4 @@
 pub mod Bytes
+pub mod Library
 pub mod Splits
 pub mod Pieces

@@ -1,12 +1,11 @@
 -- Document 01, 'The table text': lines, fields, words and numbers.
-use Rattle.std.specs.Prelude.{ℕ, ◌+◌, ◌-◌, ◌*◌, List, [], ◌∷◌, Bool, true, false, ◌&&◌, length, get_or, ltb, leb, eqb}
+use Rattle.std.specs.Prelude.{ℕ, ◌+◌, ◌-◌, ◌*◌, List, [], ◌∷◌, Bool, true, false, ◌&&◌, length, get_or, ltb, leb, eqb, Option, Some, None, Result, Ok, Err}
 use Rattle.basics.specs.Choice.{pick}
 use Rattle.table.specs.Rules.{all, between}
+use Rattle.refusals.specs.declared.Ground.{Ground}
 use Rattle.refusals.specs.declared.Ground.TheVariants.{Empty, Dash, NoDigit, LeadingZero, TooManyDigits}
 use Rattle.fields.specs.declared.Word.{Word}
 use Rattle.fields.specs.declared.Word.TheVariants as word
-use Rattle.fields.specs.declared.Number.{Number}
-use Rattle.fields.specs.declared.Number.TheVariants.{Value, Bad}
 
 -- ---- lines and fields
 
@@ -67,10 +66,12 @@ periodic_word = 112 ∷ 101 ∷ 114 ∷ 105 ∷ 111 ∷ 100 ∷ 105 ∷ 99 ∷ [
 abbrev pub dash : List ℕ
 dash = 45 ∷ []
 
-abbrev pub word_of : List ℕ → Word
+-- the word that a field is, if it is one of those that start a line
+abbrev pub word_of : List ℕ → Option Word
 word_of f =
-    pick (same_bytes f span_word) word.Span
-    (pick (same_bytes f server_word) word.Server (pick (same_bytes f once_word) word.Once (pick (same_bytes f every_word) word.Every word.Unknown)))
+    pick (same_bytes f span_word) (Some word.Span)
+    (pick (same_bytes f server_word) (Some word.Server)
+    (pick (same_bytes f once_word) (Some word.Once) (pick (same_bytes f every_word) (Some word.Every) None)))
 
 -- ---- numbers: "one to five digits, no leading zero save `0` itself"
 
@@ -85,10 +86,10 @@ digits_from n (b ∷ r) = digits_from (10 * n + (b - 48)) r
 abbrev pub starts_with_zero : List ℕ → Bool
 starts_with_zero f = eqb (get_or f 0 0) 48 && ltb 1 (length f)
 
-abbrev pub field_number : List ℕ → Number
+abbrev pub field_number : List ℕ → Result ℕ Ground
 field_number f =
-    pick (eqb (length f) 0) (Bad Empty)
-    (pick (same_bytes f dash) (Bad Dash)
+    pick (eqb (length f) 0) (Err Empty)
+    (pick (same_bytes f dash) (Err Dash)
     (pick (all is_digit f)
-    (pick (starts_with_zero f) (Bad LeadingZero) (pick (leb (length f) 5) (Value (digits_from 0 f)) (Bad TooManyDigits)))
-    (Bad NoDigit)))
+    (pick (starts_with_zero f) (Err LeadingZero) (pick (leb (length f) 5) (Ok (digits_from 0 f)) (Err TooManyDigits)))
+    (Err NoDigit)))

@@ -4,8 +4,6 @@
 pub mod parting;
 pub mod values;
 
-use refusals::Ground;
-
 // The first word of a line.
 #[derive(Clone, Copy)]
 pub enum Word {
@@ -13,12 +11,4 @@ pub enum Word {
     Server,
     Once,
     Every,
-    Unknown,
-}
-
-// A field that is to be a number.
-#[derive(Clone, Copy)]
-pub enum Number {
-    Value(u32),
-    Bad(Ground),
 }

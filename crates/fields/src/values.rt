@@ -3,44 +3,34 @@ ghost use Rattle.std.specs.Prelude.{◌≡◌, true, ◌≤◌, ◌<◌, length}
 ghost use Rattle.table.specs.Rules.{all};
 ghost use Rattle.fields.specs.Fields.{word_of, is_digit, starts_with_zero, digits_from, field_number};
 
+use crate::Word;
 use crate::parting::same;
-use crate::{Number, Word};
 use refusals::Ground;
 
 // Which of the fixed words a field is.
-pub fn word(field: &[u8]) -> Word
+pub fn word(field: &[u8]) -> Option<Word>
     ensures { result ≡ word_of field.now }
 {
     if same(field, b"span") {
-        return Word::Span;
+        return Some(Word::Span);
     }
     if same(field, b"server") {
-        return Word::Server;
+        return Some(Word::Server);
     }
     if same(field, b"once") {
-        return Word::Once;
+        return Some(Word::Once);
     }
     if same(field, b"every") {
-        return Word::Every;
+        return Some(Word::Every);
     }
-    Word::Unknown
+    None
 }
 
 // Whether every byte is a digit.
 fn digits(field: &[u8]) -> bool
     ensures { result ≡ all is_digit field.now }
 {
-    let mut i: usize = 0;
-    while i < field.len() {
-        if field[i] < 48 {
-            return false;
-        }
-        if 57 < field[i] {
-            return false;
-        }
-        i += 1;
-    }
-    true
+    field.iter().all(u8::is_ascii_digit)
 }
 
 // Whether a number starts with a zero that is not all of it.
@@ -48,50 +38,40 @@ fn leading_zero(field: &[u8]) -> bool
     requires { 0 < length field.now }
     ensures { result ≡ starts_with_zero field.now }
 {
-    if field[0] != 48 {
-        return false;
-    }
-    1 < field.len()
+    field[0] == b'0' && 1 < field.len()
 }
 
 // The number that up to five digits make.
+#[tactic(auto, using(crate::proofs::Bytes::digit_at, crate::proofs::Bytes::digits_turn, crate::proofs::Bytes::digits_end))]
 fn value(field: &[u8]) -> u32
     requires { (all is_digit field.now ≡ true) × (length field.now ≤ 5) }
     ensures { result ≡ digits_from 0 field.now }
 {
     let mut n: u32 = 0;
-    let mut i: usize = 0;
-    while i < field.len() {
-        n = 10 * n + wide(field[i] - 48);
-        i += 1;
+    for digit in field {
+        n = 10 * n + u32::from(*digit - b'0');
     }
     n
 }
 
-fn wide(byte: u8) -> u32
-    ensures { result ≡ byte }
-{
-    byte as u32
-}
-
 // A field that is to be a number.
-pub fn number(field: &[u8]) -> Number
+pub fn number(field: &[u8]) -> Result<u32, Ground>
     ensures { result ≡ field_number field.now }
 {
-    if field.len() == 0 {
-        return Number::Bad(Ground::Empty);
+    if field.is_empty() {
+        return Err(Ground::Empty);
     }
     if same(field, b"-") {
-        return Number::Bad(Ground::Dash);
+        return Err(Ground::Dash);
     }
     if !digits(field) {
-        return Number::Bad(Ground::NoDigit);
+        return Err(Ground::NoDigit);
     }
     if leading_zero(field) {
-        return Number::Bad(Ground::LeadingZero);
+        return Err(Ground::LeadingZero);
     }
     if 5 < field.len() {
-        return Number::Bad(Ground::TooManyDigits);
+        return Err(Ground::TooManyDigits);
     }
-    Number::Value(value(field))
+    Ok(value(field))
 }

@@ -7,22 +7,18 @@ use native.Mathlib.Omega.{arith}
 use lib.ListN.{length}
 use lib.Dec.{leb, eqb}
 use borrow.Author.Tests.{leb-true, leb-false, eqb-true}
+use Rattle.std.specs.Prelude.{Option, Some, None, Ok, Err}
 use Rattle.table.specs.Rules.{servers_of, tasks_of}
 use Rattle.table.specs.Span.{periods_of, span_of}
 use Rattle.table.specs.declared.Table.{Table}
-use Rattle.table.specs.declared.Span.{Span}
-use Rattle.table.specs.declared.Span.TheVariants.{Ticks, Over}
 use Rattle.fields.specs.Fields.{lines_of}
 use Rattle.lines.specs.declared.Line.{Line}
 use Rattle.lines.specs.declared.Line.TheVariants.{SpanIs, ServerIs, TaskIs, Wrong}
 use Rattle.refusals.specs.Refusals.{number_of, refused_at}
 use Rattle.refusals.specs.declared.Ground.{Ground}
 use Rattle.refusals.specs.declared.Refusal.{Refusal}
-use Rattle.reading.specs.Reading.{no_table, refusal, ended_of, read_lines, ends_with_feed, reading_of}
+use Rattle.reading.specs.Reading.{no_table, with_span, refusal, ended_of, read_lines, ends_with_feed, reading_of}
 use Rattle.reading.specs.Pieces.{with_line, goes_on}
-use Rattle.reading.specs.declared.Answer.{Answer}
-use Rattle.reading.specs.declared.Answer.TheVariants.{Accepted, Refused}
-use Rattle.reading.specs.declared.Reading.{Reading}
 use Rattle.reading.proofs.Rows.{after_right}
 use Rattle.reading.proofs.Accepted.{too_long, not_ended, by_lines}
 use Rattle.grounds.specs.Texts.{said, GroundBehind, RightBehind, Reached, here, later, FirstGround, AllRight, end, next, both, Whole, TextGround, long, unended, in_line, missing, over}
@@ -90,16 +86,16 @@ come (l ∷ ls) t n = go (said t n l) refl (come ls (with_line t (said t n l)) (
 -- a text has a ground, or is accepted
 pub data TextJudged (text : List ℕ) : Type 0 where
   refused : {x : Ground} {k place : ℕ} → TextGround text x k place → TextJudged text
-  unrefused : (reading_of text).answer ≡ Accepted → TextJudged text
+  unrefused : {t : Table} → reading_of text ≡ Ok t → TextJudged text
 
 ended_judged : (text : List ℕ) (u : Table) (m : ℕ) → Whole text → AllRight (lines_of text) no_table 1 u m → TextJudged text
 ended_judged text u m w r = go (both u) refl (eqb u.span 0) refl (span_of (periods_of (servers_of u) (tasks_of u))) refl
   where
-    go : (b : Bool) → both u ≡ b → (e : Bool) → eqb u.span 0 ≡ e → (s : Span) → span_of (periods_of (servers_of u) (tasks_of u)) ≡ s → TextJudged text
+    go : (b : Bool) → both u ≡ b → (e : Bool) → eqb u.span 0 ≡ e → (s : Option ℕ) → span_of (periods_of (servers_of u) (tasks_of u)) ≡ s → TextJudged text
     go false p e q s o = refused (missing w r p)
-    go true p true q Over o = refused (over w r p (eqb-true u.span 0 q) o)
-    go true p true q (Ticks h) o = unrefused (ap (λ (x : Reading). x.answer) (whole_reads text w r) ∙ rw (p, q, o))
-    go true p false q s o = unrefused (ap (λ (x : Reading). x.answer) (whole_reads text w r) ∙ rw (p, q))
+    go true p true q None o = refused (over w r p (eqb-true u.span 0 q) o)
+    go true p true q (Some h) o = unrefused {t = with_span u h} (whole_reads text w r ∙ rw (p, q, o))
+    go true p false q s o = unrefused {t = u} (whole_reads text w r ∙ rw (p, q))
 
 pub text_judged : (text : List ℕ) → TextJudged text
 text_judged text = go (leb (length text) 4096) refl (ends_with_feed text) refl (come (lines_of text) no_table 1)
@@ -110,10 +106,6 @@ text_judged text = go (leb (length text) 4096) refl (ends_with_feed text) refl (
     go true p true q (first f) = refused (in_line (record { short = leb-true (length text) 4096 p; ended = q }) f)
     go true p true q (right {u = u} {m = m} r) = ended_judged text u m (record { short = leb-true (length text) 4096 p; ended = q }) r
 
-abbrev refused_as : Answer → Refusal → Refusal
-refused_as Accepted d = d
-refused_as (Refused r) d = r
-
 -- the ground of a refusal: it has the number, and stands at the line and the place
 pub record Grounded (text : List ℕ) (r : Refusal) : Type 0 where
   pub ground : Ground
@@ -121,24 +113,25 @@ pub record Grounded (text : List ℕ) (r : Refusal) : Type 0 where
   pub stands : TextGround text ground r.line r.place
 
 -- a text that is refused has the ground
-pub refused_text : (text : List ℕ) (r : Refusal) → (reading_of text).answer ≡ Refused r → Grounded text r
+pub refused_text : (text : List ℕ) (r : Refusal) → reading_of text ≡ Err r → Grounded text r
 refused_text text r e = go (text_judged text)
   where
     go : TextJudged text → Grounded text r
-    go (unrefused a) = let z : Accepted ≡ Refused r = sym a ∙ e in absurd (true≢false cc)
+    go (unrefused a) = absurd (let z = sym a ∙ e in cc)
     go (refused {x = x} {k = k} {place = place} g) =
-        let z : refused_at x k place ≡ r = ap (λ (y : Answer). refused_as y r) (sym (ap (λ (y : Reading). y.answer) (text_refused text g)) ∙ e) in
+        let y = sym (text_refused text g) ∙ e in
+        let z : refused_at x k place ≡ r = cc in
         subst (Grounded text) z (record { ground = x; number = refl; stands = g })
 
 -- a text is accepted just when it has no ground
-pub accepted_none : (text : List ℕ) → (reading_of text).answer ≡ Accepted → (x : Ground) (k place : ℕ) → TextGround text x k place → ⊥
-accepted_none text a x k place g = let z : Accepted ≡ Refused (refused_at x k place) = sym a ∙ ap (λ (y : Reading). y.answer) (text_refused text g) in absurd (true≢false cc)
+pub accepted_none : (text : List ℕ) {t : Table} → reading_of text ≡ Ok t → (x : Ground) (k place : ℕ) → TextGround text x k place → ⊥
+accepted_none text a x k place g = let z = sym a ∙ text_refused text g in cc
 
-pub none_accepted : (text : List ℕ) → ((x : Ground) (k place : ℕ) → TextGround text x k place → ⊥) → (reading_of text).answer ≡ Accepted
+pub none_accepted : (text : List ℕ) → ((x : Ground) (k place : ℕ) → TextGround text x k place → ⊥) → (t : Table) × (reading_of text ≡ Ok t)
 none_accepted text h = go (text_judged text)
   where
-    go : TextJudged text → (reading_of text).answer ≡ Accepted
-    go (unrefused a) = a
+    go : TextJudged text → (t : Table) × (reading_of text ≡ Ok t)
+    go (unrefused {t = t} a) = (t, a)
     go (refused {x = x} {k = k} {place = place} g) = absurd (h x k place g)
 
 -- ---- a text has one ground
@@ -171,7 +164,7 @@ right_once (l ∷ ls) t n (next r a) (next s b) = right_once ls (with_line t (sa
 -- two grounds of a text have the same number, line and place
 pub text_ground_once : (text : List ℕ) {x y : Ground} {k l p q : ℕ} → TextGround text x k p → TextGround text y l q → refused_at x k p ≡ refused_at y l q
 text_ground_once text {x} {y} {k} {l} {p} {q} g h =
-    ap (λ (r : Reading). refused_as r.answer (refused_at x k p)) (sym (text_refused text g) ∙ text_refused text h)
+    let e = sym (text_refused text g) ∙ text_refused text h in cc
 
 -- and they are the same ground
 module _ (text : List ℕ) where

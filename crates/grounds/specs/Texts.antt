@@ -1,11 +1,10 @@
 -- Document 01, 'Numbers given on refusal': "Each ground is tested by order: .. 1, 2; then line by line 3, 7, 4, 5, 6, within 5 and within 6 from the left;
 -- then 3 for what is missing, on the line after the last; then 8." The grounds of a whole text, each with its line and place; each contains that those
 -- before it do not hold.
-use Rattle.std.specs.Prelude.{ℕ, ◌+◌, ◌≤◌, ◌<◌, ◌≡◌, List, [], ◌∷◌, Bool, true, false, ◌&&◌, length, ltb}
+use Rattle.std.specs.Prelude.{ℕ, ◌+◌, ◌≤◌, ◌<◌, ◌≡◌, List, [], ◌∷◌, Bool, true, false, ◌&&◌, None, length, ltb}
 use Rattle.table.specs.Rules.{servers_of, tasks_of}
 use Rattle.table.specs.Span.{periods_of, span_of}
 use Rattle.table.specs.declared.Table.{Table}
-use Rattle.table.specs.declared.Span.TheVariants.{Over}
 use Rattle.fields.specs.Fields.{lines_of}
 use Rattle.lines.specs.Lines.{line_of}
 use Rattle.lines.specs.declared.Line.{Line}
@@ -64,4 +63,4 @@ pub data TextGround (text : List ℕ) : Ground → ℕ → ℕ → Type 0 where
   missing : {u : Table} {m : ℕ} → Whole text → AllRight (lines_of text) no_table 1 u m → both u ≡ false → TextGround text Missing m 0
   -- 8: "`span` is `-` and the multiple is above 16,000"
   over : {u : Table} {m : ℕ} → Whole text → AllRight (lines_of text) no_table 1 u m → both u ≡ true → u.span ≡ 0
-      → span_of (periods_of (servers_of u) (tasks_of u)) ≡ Over → TextGround text MultipleOver 0 0
+      → span_of (periods_of (servers_of u) (tasks_of u)) ≡ None → TextGround text MultipleOver 0 0

@@ -1,6 +1,5 @@
 -- What a caller in C gets of the curve calls, of the report and of an analysis: 0, or the number of the refusal, and numbers through pointers.
-use Rattle.std.specs.Prelude.{ℕ, ◌≡◌, List, [], ◌∷◌, ◌++◌, Option, Some, None, ℤ, pos, take, drop}
-use Rattle.windows.specs.Windows.{Instant, at, not_provided}
+use Rattle.std.specs.Prelude.{ℕ, ◌≡◌, List, [], ◌∷◌, ◌++◌, ℤ, pos, take, drop, Option, Some, None}
 use Rattle.refusals.specs.Outcomes.{Outcome, refused, answer, front}
 use Rattle.refusals.specs.declared.Refusal.{Refusal}
 use Rattle.entries.specs.Entries.{rows}
@@ -23,9 +22,9 @@ handed f (answer x) old = f x
 handed f (refused refusal) old = old
 
 -- an instant; 0 for not provided: no amount above 0 is provided at 0
-abbrev pub instant_or0 : Instant → ℕ
-instant_or0 (at t) = t
-instant_or0 not_provided = 0
+abbrev pub instant_or0 : Option ℕ → ℕ
+instant_or0 (Some t) = t
+instant_or0 None = 0
 
 -- ---- who holds a tick
 

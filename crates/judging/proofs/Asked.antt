@@ -1,61 +1,33 @@
--- Whether a curve covers a tick, window by window. Assumes nothing.
-use Prim.Native.Nat.{ℕ, ◌+◌, ◌-◌, ◌≤◌, ◌<◌}
-use mathlib.Core.Path.{◌≡◌, refl, sym, ap, ◌∙◌}
-use mathlib.Core.List.{List}
-use mathlib.Core.Bool.{Bool, true, false}
-use native.Mathlib.Omega.{arith}
-use lib.ListN.{length, get_or, drop, drop_of_length-le}
-use lib.Dec.{ltb}
-use borrow.Author.Tests.{lt-ltb, ltb-true, ltb-false, le-leb}
-use Rattle.basics.specs.Choice.{pick}
+-- Whether a curve covers a tick, by its first window. Assumes nothing.
+use Rattle.std.proofs.Common.{ℕ, ◌≡◌, ◌+◌, ◌-◌, ◌≤◌, ◌<◌, List, [], ◌∷◌, ltb, true, false, length, get_or, take, drop, refl, sym, ap, arith}
+use Rattle.std.proofs.Math.Seq.{take_all}
+use borrow.Author.Tests.{lt-ltb}
 use Rattle.windows.specs.Windows.{inside, cover}
-use Rattle.windows.proofs.Ticks.{inside_early}
-use Rattle.windows.proofs.Turns.{drop_pair, drop_odd}
+use Rattle.windows.proofs.Ticks.{inside_yes, inside_early, inside_late}
 
--- ---- one window
+-- the windows behind the first
+abbrev pub behind : List ℕ → List ℕ
+behind l = take (length l - 2) (drop 2 l)
 
-pub lies_early : (s e t : ℕ) → t < s → ltb 0 (inside s e t) ≡ false
-lies_early s e t h = rw (inside_early s e t h)
-
-pub lies_late : (s e t : ℕ) → s ≤ t → ltb 0 (inside s e t) ≡ ltb t e
-unfolding inside
-lies_late s e t h = rw (le-leb s t h) (go (ltb t e))
-  where
-    go : (b : Bool) → ltb 0 (pick b 1 0) ≡ b
-    go true = refl
-    go false = refl
-
--- ---- all windows
-
--- a walk along a curve has come to number i: what is ahead covers the tick just if the curve does
-pub record Ahead (l : List ℕ) (t i : ℕ) : Type 0 where
-  pub within : i ≤ length l
-  pub same : ltb 0 (cover (drop i l) t) ≡ ltb 0 (cover l t)
-
-pub ahead_all : (l : List ℕ) (t : ℕ) → Ahead l t 0
-ahead_all l t = record { within = omega arith; same = refl }
-
-module _ (l : List ℕ) (t i : ℕ) (w : Ahead l t i) where
-  pub ahead_odd : i < length l → length l - i < 2 → ltb 0 (cover l t) ≡ false
+module _ (t : ℕ) where
+  cover_pair : (l : List ℕ) → 2 ≤ length l → cover l t ≡ inside (get_or l 0 0) (get_or l 1 0) t + cover (behind l) t
   unfolding cover
-  ahead_odd h k = sym w.same ∙ ap (λ (r : List ℕ). ltb 0 (cover r t)) (drop_odd l i h k)
+  cover_pair [] h = absurd (omega arith)
+  cover_pair (s ∷ []) h = absurd (omega arith)
+  cover_pair (s ∷ (e ∷ r)) h = ap (λ (l : List ℕ). inside s e t + cover l t) (sym (take_all (length (s ∷ (e ∷ r)) - 2) r (omega arith)))
 
-  pub ahead_none : length l ≤ i → ltb 0 (cover l t) ≡ false
+  pub covered_here : (l : List ℕ) → 2 ≤ length l → get_or l 0 0 ≤ t → t < get_or l 1 0 → true ≡ ltb 0 (cover l t)
+  covered_here l h p q =
+      sym (lt-ltb 0 (cover l t) (omega (arith, cover_pair l h, inside_yes (get_or l 0 0) (get_or l 1 0) t p q)))
+
+  pub covered_later : (l : List ℕ) → 2 ≤ length l → t < get_or l 0 0 → ltb 0 (cover (behind l) t) ≡ ltb 0 (cover l t)
+  covered_later l h p = ap (ltb 0) (omega (arith, cover_pair l h, inside_early (get_or l 0 0) (get_or l 1 0) t p))
+
+  pub covered_behind : (l : List ℕ) → 2 ≤ length l → get_or l 1 0 ≤ t → ltb 0 (cover (behind l) t) ≡ ltb 0 (cover l t)
+  covered_behind l h p = ap (ltb 0) (omega (arith, cover_pair l h, inside_late (get_or l 0 0) (get_or l 1 0) t p))
+
+  pub covered_nowhere : (l : List ℕ) → length l < 2 → false ≡ ltb 0 (cover l t)
   unfolding cover
-  ahead_none h = sym w.same ∙ ap (λ (r : List ℕ). ltb 0 (cover r t)) (drop_of_length-le l h)
-
-  module _ (pair : 2 ≤ length l - i) where
-    abbrev here : ℕ
-    here = inside (get_or l i 0) (get_or l (i + 1) 0) t
-
-    split : ltb 0 (cover l t) ≡ ltb 0 (here + cover (drop (i + 2) l) t)
-    unfolding cover
-    split = sym w.same ∙ ap (λ (r : List ℕ). ltb 0 (cover r t)) (drop_pair l i pair)
-
-    pub ahead_here : ltb 0 here ≡ true → ltb 0 (cover l t) ≡ true
-    ahead_here e = split ∙ lt-ltb 0 (here + cover (drop (i + 2) l) t) (omega (arith, ltb-true 0 here e))
-
-    pub ahead_next : ltb 0 here ≡ false → Ahead l t (i + 2)
-    ahead_next e =
-        let none : here + cover (drop (i + 2) l) t ≡ cover (drop (i + 2) l) t = omega (arith, ltb-false 0 here e) in
-        record { within = omega arith; same = sym (split ∙ ap (ltb 0) none) }
+  covered_nowhere [] h = refl
+  covered_nowhere (s ∷ []) h = refl
+  covered_nowhere (s ∷ (e ∷ r)) h = absurd (omega arith)

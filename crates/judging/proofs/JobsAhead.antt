@@ -6,7 +6,8 @@ use mathlib.Core.Bool.{true, false}
 use native.Mathlib.Omega.{arith}
 use native.Mathlib.Decide.{dec_lt}
 use lib.ListN.{length, get_or}
-use Rattle.windows.specs.Windows.{Instant, at, provide}
+use Rattle.std.specs.Prelude.{Option, Some}
+use Rattle.windows.specs.Windows.{provide}
 use Rattle.windows.proofs.Ticks.{plain_apart}
 use Rattle.windows.proofs.Providing.{provide_reached}
 use Rattle.table.specs.declared.Release.{Release}
@@ -15,7 +16,8 @@ use Rattle.table.specs.Releases.{released_at}
 use Rattle.schedule.specs.Curves.{releases_from}
 use Rattle.answers.specs.Answers.{Verdict, unfinished, none, worse, after_job, judged}
 use Rattle.judging.specs.declared.passing.Passed.{Passed}
-use Rattle.judging.specs.declared.jobs.Worst.{Worst}
+use Rattle.judging.specs.declared.ended.EndedJob.{EndedJob}
+use Rattle.std.specs.Prelude.{Option, None, Some}
 use Rattle.buffers.specs.Parts.{PlainBelow}
 use Rattle.demands.specs.Walks.{TaskObeyed, first_release, next_release}
 use Rattle.judging.specs.Passes.{Passes, reached_at}
@@ -66,7 +68,7 @@ module _ (release : Release) (span : ℕ) where
 -- ---- one job
 
 -- a curve below H gives an amount at H or before, if it does
-provide_below : (H : ℕ) (l : List ℕ) (n t : ℕ) → PlainBelow H l → 0 < n → provide l n ≡ at t → t ≤ H
+provide_below : (H : ℕ) (l : List ℕ) (n t : ℕ) → PlainBelow H l → 0 < n → provide l n ≡ Some t → t ≤ H
 provide_below H l n t b z e = go (dec_lt H t)
   where
     go : Dec (H < t) → t ≤ H
@@ -80,32 +82,29 @@ abbrev pub all_judged : Task → ℕ → List ℕ → Verdict
 all_judged task span running = judged running task.work 1 (releases_from task.release span 0) none
 
 -- those before the release r are judged, and `worst` is the worst so far; the next one ends when the task has run `amount`
-pub record Judging (task : Task) (span : ℕ) (running : List ℕ) (worst : Worst) (passed : Passed) (amount r : ℕ) : Type 0 where
+pub record Judging (task : Task) (span : ℕ) (running : List ℕ) (worst : Option EndedJob) (passed : Passed) (amount r : ℕ) : Type 0 where
   pub job : ℕ
   pub ends : amount ≡ job * task.work
   pub most : amount ≤ 16000 * suc r
   pub passes : Passes running passed
   pub above : passed.given < amount
-  pub short : worst.response ≤ 16000
   pub released : r < span → released_at task.release r ≡ true
   pub ahead : all_judged task span running ≡ judged running task.work job (releases_from task.release (span - r) r) (worst_so_far worst)
 
 -- at the first release none is
-pub judging_starts : (task : Task) (span : ℕ) (running : List ℕ) → TaskObeyed task
-    → Judging task span running (record { any = false; response = 0; release = 0 }) (record { windows = 0; given = 0 }) task.work
-    (first_release task.release)
-judging_starts task span running ok = record {
+pub judging_starts : (task : Task) (span : ℕ) (running : List ℕ) {passed : Passed} → TaskObeyed task → (passed.windows ≡ 0) × (passed.given ≡ 0)
+    → Judging task span running None passed task.work (first_release task.release)
+judging_starts task span running ok e = record {
   job = 1;
   ends = omega arith;
   most = omega (arith, ok.most);
-  passes = passes_none running;
-  above = ok.some;
-  short = omega arith;
+  passes = passes_none running e;
+  above = omega (arith, ok.some);
   released = λ h. first_released task.release;
   ahead = ap (λ (rs : List ℕ). judged running task.work 1 rs none) (from_first task.release span);
 }
 
-module _ {task : Task} {span : ℕ} {running : List ℕ} {worst : Worst} {passed : Passed} {amount r : ℕ} (j : Judging task span running worst passed amount r) where
+module _ {task : Task} {span : ℕ} {running : List ℕ} {worst : Option EndedJob} {passed : Passed} {amount r : ℕ} (j : Judging task span running worst passed amount r) where
   -- past the span all are
   pub judging_ends : span ≤ r → all_judged task span running ≡ worst_so_far worst
   unfolding judged releases_from
@@ -131,11 +130,11 @@ module _ {task : Task} {span : ℕ} {running : List ℕ} {worst : Worst} {passed
       one_judged =
           j.ahead
           ∙ ap (λ (rs : List ℕ). judged running task.work j.job rs (worst_so_far worst)) (from_next task.release span r next before (j.released before) next_release_lem)
-          ∙ ap (λ (x : Instant). after_job x r (worst_so_far worst) later) (ap (provide running) (sym j.ends) ∙ reached)
+          ∙ ap (λ (x : Option ℕ). after_job x r (worst_so_far worst) later) (ap (provide running) (sym j.ends) ∙ reached)
 
       -- it does not end
       pub judging_unfinished : length running ≤ 2 * p.windows → all_judged task span running ≡ unfinished r
-      judging_unfinished h = one_judged ∙ ap (λ (x : Instant). after_job x r (worst_so_far worst) later) (reached_nowhere running p amount h)
+      judging_unfinished h = one_judged ∙ ap (λ (x : Option ℕ). after_job x r (worst_so_far worst) later) (reached_nowhere running p amount h)
 
       -- it ends in the next window
       module _ (there : 2 * p.windows < length running) where
@@ -147,15 +146,14 @@ module _ {task : Task} {span : ℕ} {running : List ℕ} {worst : Worst} {passed
         end_below b = provide_below span running amount end b (omega arith) (reached ∙ reached_there running p amount there)
 
         -- the walk goes on
-        pub judging_next : {new : Worst} → worst_so_far new ≡ worse (worst_so_far worst) (end - r) r → new.response ≤ 16000
-            → Judging task span running new p (amount + task.work) next
-        judging_next e s = record {
+        pub judging_next : {new : EndedJob} → worst_so_far (Some new) ≡ worse (worst_so_far worst) (end - r) r
+            → Judging task span running (Some new) p (amount + task.work) next
+        judging_next e = record {
           job = suc j.job;
           ends = omega (arith, j.ends);
           most = omega (arith, j.most, ok.most, next_release_lem.later);
           passes = passes;
           above = omega arith;
-          short = s;
           released = λ h. next_release_lem.again (omega arith);
-          ahead = one_judged ∙ ap (λ (x : Instant). after_job x r (worst_so_far worst) later) (reached_there running p amount there) ∙ ap later (sym e);
+          ahead = one_judged ∙ ap (λ (x : Option ℕ). after_job x r (worst_so_far worst) later) (reached_there running p amount there) ∙ ap later (sym e);
         }

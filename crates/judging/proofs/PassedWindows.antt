@@ -1,14 +1,16 @@
 -- A walk that has passed so many windows of a plain curve: what they give, and where an amount above that is reached. Assumes nothing.
-use Prim.Native.Nat.{ℕ, zero, suc, ◌+◌, ◌-◌, ◌*◌, ◌/◌, ◌≤◌, ◌<◌}
+use Prim.Native.Nat.{ℕ, zero, suc, ◌+◌, ◌-◌, ◌*◌, ◌≤◌, ◌<◌}
 use mathlib.Core.Path.{◌≡◌, refl, sym, ap, ◌∙◌}
 use mathlib.Core.List.{List, [], ◌∷◌}
 use mathlib.Core.Bool.{true}
 use native.Mathlib.Omega.{arith}
 use native.Mathlib.Numerals.{add-one}
 use native.Mathlib.Decide.{dec_lt}
-use lib.ListN.{length, get_or, take, drop, drop_of_length-le}
+use lib.ListN.{length, get_or, take, drop, drop_of_length-le, length-drop}
+use Rattle.std.proofs.lemmas.List.{take_all, get_or-drop}
 use borrow.Author.Tests.{lt-ltb, le-ltb, le-leb, lt-leb}
-use Rattle.windows.specs.Windows.{size, is_plain, at, not_provided, provide}
+use Rattle.std.specs.Prelude.{Some, None}
+use Rattle.windows.specs.Windows.{size, is_plain, provide}
 use Rattle.windows.specs.Walks.{walk}
 use Rattle.windows.proofs.Ticks.{cover_after, plain_apart, plain_end}
 use Rattle.windows.proofs.Providing.{walk_is}
@@ -42,9 +44,9 @@ size_more (s ∷ (e ∷ r)) (suc zero) ev k = absurd ev
 size_more (s ∷ (e ∷ r)) (suc (suc i)) ev k = omega (arith, size_more r i ev (omega arith))
 
 -- before the first window
-pub passes_none : (l : List ℕ) → Passes l (record { windows = 0; given = 0 })
+pub passes_none : (l : List ℕ) {p : Passed} → (p.windows ≡ 0) × (p.given ≡ 0) → Passes l p
 unfolding size
-passes_none l = record { count = omega arith; given = refl }
+passes_none l e = record { count = omega arith; given = rw (e.0, e.1) refl }
 
 -- behind the next window
 pub passes_more : {l : List ℕ} {p : Passed} → is_plain l ≡ true → Passes l p → 2 * p.windows < length l
@@ -58,12 +60,29 @@ passes_more {l} {p} plain passes h =
       given = rw (twice, add-one i, passes.given) (sym (size_more l i (even_twice p.windows) (omega arith)));
     }
 
--- half as many as there are numbers are all
-pub passed_all : (l : List ℕ) (w : ℕ) → is_plain l ≡ true → length l / 2 ≤ w → length l ≤ 2 * w
+-- the numbers from index i on
+abbrev pub ahead : List ℕ → ℕ → List ℕ
+ahead l i = take (length l - i) (drop i l)
+
+ahead_is : (l : List ℕ) (i : ℕ) → ahead l i ≡ drop i l
+ahead_is l i = take_all (length l - i) (drop i l) (omega (arith, length-drop i l))
+
+module _ (l : List ℕ) (i : ℕ) where
+  pub ahead_start : get_or (ahead l i) 0 0 ≡ get_or l i 0
+  ahead_start = rw (ahead_is l i, get_or-drop i l 0 0) (ap (λ (n : ℕ). get_or l n 0) (omega arith))
+
+  pub ahead_end : get_or (ahead l i) 1 0 ≡ get_or l (i + 1) 0
+  ahead_end = rw (ahead_is l i) (get_or-drop i l 1 0)
+
+  pub ahead_pair : 2 ≤ length (ahead l i) → i + 1 < length l
+  ahead_pair h = omega (arith, h, ap length (ahead_is l i), length-drop i l)
+
+-- where fewer than two are ahead, all windows are passed
+pub passed_all : (l : List ℕ) (w : ℕ) → is_plain l ≡ true → length (ahead l (2 * w)) < 2 → length l ≤ 2 * w
 passed_all l w plain h = go (dec_lt (2 * w) (length l))
   where
     go : Dec (2 * w < length l) → length l ≤ 2 * w
-    go (yes k) = absurd (omega (arith, (next_window plain w k).pair))
+    go (yes k) = absurd (omega (arith, (next_window plain w k).pair, ap length (ahead_is l (2 * w)), length-drop (2 * w) l))
     go (no k) = omega arith
 
 -- ---- up to an amount
@@ -79,22 +98,22 @@ walk_behind (s ∷ (e ∷ r)) (suc (suc i)) n ev h k =
     rw (lt-leb n (e - s) (omega arith)) (walk_behind r i (n - (e - s)) ev (omega arith) (omega arith) ∙ ap (walk (drop i r)) (omega arith))
 
 -- it ends in a window that is long enough
-walk_ends : (s e n : ℕ) (r : List ℕ) → n ≤ e - s → walk (s ∷ (e ∷ r)) n ≡ at (s + n)
+walk_ends : (s e n : ℕ) (r : List ℕ) → n ≤ e - s → walk (s ∷ (e ∷ r)) n ≡ Some (s + n)
 unfolding walk
 walk_ends s e n r h = rw (le-leb n (e - s) h)
 
 -- and nowhere, if there is none
-walk_none : (n : ℕ) → walk [] n ≡ not_provided
+walk_none : (n : ℕ) → walk [] n ≡ None
 unfolding walk
 walk_none n = refl
 
 module _ (l : List ℕ) (p : Passed) (n : ℕ) where
   -- in the next window
-  pub reached_there : 2 * p.windows < length l → reached_at l p n ≡ at (get_or l (2 * p.windows) 0 + (n - p.given))
+  pub reached_there : 2 * p.windows < length l → reached_at l p n ≡ Some (get_or l (2 * p.windows) 0 + (n - p.given))
   reached_there h = rw (lt-ltb (2 * p.windows) (length l) h)
 
   -- nowhere, if there is none
-  pub reached_nowhere : length l ≤ 2 * p.windows → reached_at l p n ≡ not_provided
+  pub reached_nowhere : length l ≤ 2 * p.windows → reached_at l p n ≡ None
   reached_nowhere h = rw (le-ltb (2 * p.windows) (length l) h)
 
   module _ (plain : is_plain l ≡ true) (passes : Passes l p) (above : p.given < n) where
@@ -106,7 +125,7 @@ module _ (l : List ℕ) (p : Passed) (n : ℕ) where
         ∙ ap (λ (x : ℕ). walk (drop (2 * p.windows) l) (n - x)) (sym passes.given)
 
     -- in the next one, if that is long enough
-    pub provide_there : 2 * p.windows < length l → n ≤ p.given + (get_or l (2 * p.windows + 1) 0 - get_or l (2 * p.windows) 0)
+    provide_there : 2 * p.windows < length l → n ≤ p.given + (get_or l (2 * p.windows + 1) 0 - get_or l (2 * p.windows) 0)
         → provide l n ≡ reached_at l p n
     provide_there h k =
         let pair = (next_window plain p.windows h).pair in
@@ -116,6 +135,15 @@ module _ (l : List ℕ) (p : Passed) (n : ℕ) where
         ∙ sym (reached_there h)
 
     -- nowhere, if there is none
-    pub provide_nowhere : length l ≤ 2 * p.windows → provide l n ≡ reached_at l p n
+    provide_nowhere : length l ≤ 2 * p.windows → provide l n ≡ reached_at l p n
     provide_nowhere h =
         provide_behind ∙ ap (λ (r : List ℕ). walk r (n - p.given)) (drop_of_length-le l h) ∙ walk_none (n - p.given) ∙ sym (reached_nowhere h)
+
+    -- so where the next one is long enough, if there is one
+    pub provide_next : (2 * p.windows < length l → n ≤ p.given + (get_or l (2 * p.windows + 1) 0 - get_or l (2 * p.windows) 0))
+        → provide l n ≡ reached_at l p n
+    provide_next long = go (dec_lt (2 * p.windows) (length l))
+      where
+        go : Dec (2 * p.windows < length l) → provide l n ≡ reached_at l p n
+        go (yes h) = provide_there h (long h)
+        go (no h) = provide_nowhere (omega arith)

@@ -1,8 +1,9 @@
 -- What the functions that judge a task make of what they are given.
-use Rattle.basics.specs.Choice.{pick}
+use Rattle.std.specs.Prelude.{Option, Some, None}
 use Rattle.answers.specs.Answers.{Verdict, worst, none}
-use Rattle.judging.specs.declared.jobs.Worst.{Worst}
+use Rattle.judging.specs.declared.ended.EndedJob.{EndedJob}
 
--- the worst so far
-abbrev pub worst_so_far : Worst → Verdict
-worst_so_far w = pick w.any (worst w.response w.release) none
+-- the worst so far, if a job has ended
+abbrev pub worst_so_far : Option EndedJob → Verdict
+worst_so_far (Some job) = worst job.response job.release
+worst_so_far None = none

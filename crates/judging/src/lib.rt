@@ -2,6 +2,7 @@
 #![tactic(auto)]
 
 pub mod covering;
+mod ended;
 pub mod jobs;
 mod passing;
 pub mod periods;

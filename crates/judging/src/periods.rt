@@ -5,7 +5,7 @@ ghost use Rattle.answers.specs.Answers.{short_on, short_of, answer_on};
 ghost use Rattle.judging.specs.Passes.{Passes, EndsBy, EndsAfter};
 
 use crate::passing::{Passed, pass_instant};
-use answers::{ServerAnswer, Short};
+use answers::ServerAnswer;
 use table::Server;
 
 // How many ticks of a curve lie below an instant, once the windows that end there or before it are passed.
@@ -14,39 +14,29 @@ fn given_below(curve: &[u32], passed: Passed, instant: u32) -> u32
         × EndsAfter curve.now passed.windows instant }
     ensures { result ≡ upto (cover curve.now) instant }
 {
-    let i = 2 * passed.windows;
-    if curve.len() <= i {
+    let Some(start) = curve.get(2 * passed.windows) else {
         return passed.given;
-    }
-    if instant <= curve[i] {
-        return passed.given;
-    }
-    passed.given + (instant - curve[i])
+    };
+    passed.given + instant.saturating_sub(*start)
 }
 
 // The first of so many full periods that has fewer free ticks than the capacity.
-fn first_short(server: Server, full: u32, free: &[u32]) -> Short
+fn first_short(server: Server, full: u32, free: &[u32]) -> Option<u32>
     requires { (is_plain free.now ≡ true) × (full * server.period ≤ 16000) }
     ensures { result ≡ short_of (short_on free.now server.capacity server.period full) }
 {
-    let mut passed = Passed {
-        windows: 0,
-        given: 0,
-    };
-    let mut before: u32 = 0;
-    let mut end: u32 = 0;
-    let mut k: u32 = 0;
-    while k < full {
-        end += server.period;
+    let mut passed = Passed::default();
+    let mut before = 0;
+    for k in 0..full {
+        let end = (k + 1) * server.period;
         passed = pass_instant(free, passed, end);
         let given = given_below(free, passed, end);
         if given - before < server.capacity {
-            return Short::First(k);
+            return Some(k);
         }
         before = given;
-        k += 1;
     }
-    Short::Never
+    None
 }
 
 // The answer of a server that has a free curve.

@@ -1,227 +1,164 @@
 // What one line says.
 #![tactic(auto)]
 
-ghost use Rattle.std.specs.Prelude.{◌≡◌, ◌≤◌, length};
+ghost use Rattle.std.specs.Prelude.{◌≡◌, ◌<◌, Ok, Err};
 ghost use Rattle.basics.specs.Choice.{pick};
 ghost use Rattle.fields.specs.Fields.{field_at, same_bytes, dash, field_number};
-ghost use Rattle.lines.specs.declared.Line.TheVariants.{Wrong};
-ghost use Rattle.lines.specs.Pieces.{wrong_of, wrong_kind_of, wrong_pair_of, PairAt, HasPlace};
-ghost use Rattle.lines.specs.Lines.{task_placed, ranged, kind_of, deadline_of, server_is, task_is, span_line, server_line, once_line, every_line, line_of};
+ghost use Rattle.lines.specs.Pieces.{ReadAt};
+ghost use Rattle.lines.specs.Lines.{wrong_at, counted, ranged, task_placed, kind_of, deadline_of, server_is, task_is, span_line, server_line, once_line, every_line, line_of};
 
+use fields::Word;
 use fields::parting::{count, field, same};
 use fields::values::{number, word};
-use fields::{Number, Word};
 use refusals::Ground;
 use table::ranges::{in_ticks, within};
 use table::{Kind, Release, Server, Task};
 
-// A field that is to be a server's kind.
-#[derive(Clone, Copy)]
-pub enum KindField {
-    Is(Kind),
-    Bad(Ground),
-}
-
-// Two numbers, or what is wrong with the first that is none.
-#[derive(Clone, Copy)]
-pub enum Pair {
-    Of(u32, u32),
-    Bad(Line),
-}
-
-// What one line says; a span of 0 is the one that all periods give.
+// What a right line says; a span of 0 is the one that all periods give.
 #[derive(Clone, Copy)]
 pub enum Line {
     SpanIs(u32),
     ServerIs(Server),
     TaskIs(Task),
-    Wrong(Ground, u32),
 }
 
-// A line by one of its tests: what `next` says, or the test's ground. Nested, tests stand in the order in which the first that fails decides.
-fn tested(ok: bool, ground: Ground, next: Line) -> Line
-    ensures { result ≡ pick ok next (Wrong ground 0) }
-{
-    if ok {
-        return next;
-    }
-    Line::Wrong(ground, 0)
+// What is wrong with a line, and at which place of it, the first word being 1; 0 where it is the line as a whole.
+#[derive(Clone, Copy)]
+pub struct Wrong {
+    pub ground: Ground,
+    pub place: u32,
 }
 
-// A line by whether the number at a place is in its range.
-fn ranged(ok: bool, place: u32, next: Line) -> Line
-    ensures { result ≡ ranged ok place next }
+// A test of a line. Of several, one behind the other, the first that fails decides.
+fn required(holds: bool, ground: Ground, place: u32) -> Result<(), Wrong>
+    ensures { result ≡ pick holds (Ok tt) (Err (wrong_at ground place)) }
 {
-    if ok {
-        return next;
-    }
-    Line::Wrong(Ground::OutOfRange, place)
-}
-
-// The answer of a field that is no number.
-fn wrong(number: Number, place: u32) -> Line
-    ensures { result ≡ wrong_of number place }
-{
-    match number {
-        Number::Bad(what) => Line::Wrong(what, place),
-        Number::Value(_) => Line::Wrong(Ground::Empty, place),
+    if holds {
+        Ok(())
+    } else {
+        Err(Wrong { ground, place })
     }
 }
 
-// The answer of two fields of which one is no number.
-fn wrong_pair(pair: Pair) -> Line
-    ensures { result ≡ wrong_pair_of pair }
+// The test that a line has `n` fields.
+fn counted(line: &[u8], n: usize) -> Result<(), Wrong>
+    ensures { result ≡ counted line.now n (Ok tt) }
 {
-    match pair {
-        Pair::Bad(line) => line,
-        Pair::Of(_, _) => Line::Wrong(Ground::Empty, 0),
-    }
+    required(count(line) == n, Ground::FieldCount, 0)
 }
 
-// The answer of a field that is no server kind.
-fn wrong_kind(kind: KindField, place: u32) -> Line
-    ensures { result ≡ wrong_kind_of kind place }
+// The test that the number at a place is in its range.
+fn ranged(holds: bool, place: u32) -> Result<(), Wrong>
+    ensures { result ≡ ranged holds place (Ok tt) }
 {
-    match kind {
-        KindField::Bad(what) => Line::Wrong(what, place),
-        KindField::Is(_) => Line::Wrong(Ground::Empty, place),
-    }
+    required(holds, Ground::OutOfRange, place)
+}
+
+// What the field at a place is read as, or what is wrong with it.
+fn at<T>(read: Result<T, Ground>, place: u32) -> Result<T, Wrong>
+    ensures { ReadAt read place result }
+{
+    read.map_err(|ground| Wrong { ground, place })
 }
 
 // Whether `-` stands at a place, the line's first word being 1.
 fn dash_at(line: &[u8], place: u32) -> bool
-    requires { HasPlace line.now place }
+    requires { 0 < place }
     ensures { result ≡ same_bytes (field_at line.now place) dash }
 {
-    let skip = place as usize - 1;
-    same(field(line, skip), b"-")
+    same(field(line, place as usize - 1), b"-")
 }
 
 // The number at a place.
-fn number_at(line: &[u8], place: u32) -> Number
-    requires { HasPlace line.now place }
-    ensures { result ≡ field_number (field_at line.now place) }
+fn number_at(line: &[u8], place: u32) -> Result<u32, Wrong>
+    requires { 0 < place }
+    ensures { ReadAt (field_number (field_at line.now place)) place result }
 {
-    let skip = place as usize - 1;
-    number(field(line, skip))
-}
-
-// The numbers at two places.
-fn pair_at(line: &[u8], first: u32, second: u32) -> Pair
-    requires { HasPlace line.now first × HasPlace line.now second }
-    ensures { PairAt line.now first second result }
-{
-    let a = number_at(line, first);
-    let Number::Value(one) = a else {
-        return Pair::Bad(wrong(a, first));
-    };
-    let b = number_at(line, second);
-    let Number::Value(other) = b else {
-        return Pair::Bad(wrong(b, second));
-    };
-    Pair::Of(one, other)
+    at(number(field(line, place as usize - 1)), place)
 }
 
 // `span`: a number of ticks, or `-`.
-fn span_line(line: &[u8]) -> Line
-    requires { length line.now ≤ 4096 }
+fn span_line(line: &[u8]) -> Result<Line, Wrong>
     ensures { result ≡ span_line line.now }
 {
-    if count(line) != 2 {
-        return Line::Wrong(Ground::FieldCount, 0);
-    }
+    counted(line, 2)?;
     if dash_at(line, 2) {
-        return Line::SpanIs(0);
+        return Ok(Line::SpanIs(0));
     }
-    let h = number_at(line, 2);
-    let Number::Value(ticks) = h else {
-        return wrong(h, 2);
-    };
-    ranged(in_ticks(ticks), 2, Line::SpanIs(ticks))
+    let ticks = number_at(line, 2)?;
+    ranged(in_ticks(ticks), 2)?;
+    Ok(Line::SpanIs(ticks))
 }
 
 // A server's kind.
-fn kind(field: &[u8]) -> KindField
+fn kind(field: &[u8]) -> Result<Kind, Ground>
     ensures { result ≡ kind_of field.now }
 {
-    if field.len() == 0 {
-        return KindField::Bad(Ground::Empty);
+    if field.is_empty() {
+        return Err(Ground::Empty);
     }
     if same(field, b"deferrable") {
-        return KindField::Is(Kind::Deferrable);
+        return Ok(Kind::Deferrable);
     }
     if same(field, b"periodic") {
-        return KindField::Is(Kind::Periodic);
+        return Ok(Kind::Periodic);
     }
-    KindField::Bad(Ground::UnknownKind)
+    Err(Ground::UnknownKind)
 }
 
 // A server, if its numbers are in their ranges.
-fn server(kind: Kind, capacity: u32, period: u32) -> Line
+fn server(kind: Kind, capacity: u32, period: u32) -> Result<Line, Wrong>
     ensures { result ≡ server_is kind capacity period }
 {
-    let server = Line::ServerIs(Server {
+    ranged(in_ticks(capacity) && capacity <= period, 3)?;
+    ranged(in_ticks(period), 4)?;
+    Ok(Line::ServerIs(Server {
         kind,
         capacity,
         period,
-    });
-    let whole = ranged(in_ticks(period), 4, server);
-    ranged(in_ticks(capacity), 3, ranged(capacity <= period, 3, whole))
+    }))
 }
 
 // `server`: kind, capacity, period.
-fn server_line(line: &[u8]) -> Line
-    requires { length line.now ≤ 4096 }
+fn server_line(line: &[u8]) -> Result<Line, Wrong>
     ensures { result ≡ server_line line.now }
 {
-    if count(line) != 4 {
-        return Line::Wrong(Ground::FieldCount, 0);
-    }
-    let k = kind(field(line, 1));
-    let KindField::Is(is) = k else {
-        return wrong_kind(k, 2);
-    };
-    let numbers = pair_at(line, 3, 4);
-    let Pair::Of(capacity, period) = numbers else {
-        return wrong_pair(numbers);
-    };
-    server(is, capacity, period)
+    counted(line, 4)?;
+    let kind = at(kind(field(line, 1)), 2)?;
+    let capacity = number_at(line, 3)?;
+    let period = number_at(line, 4)?;
+    server(kind, capacity, period)
 }
 
 // A task, if its numbers are in their ranges.
-fn task(servers: usize, task: Task) -> Line
+fn task(servers: usize, task: Task) -> Result<Line, Wrong>
     ensures { result ≡ task_is servers task }
 {
-    let whole = Line::TaskIs(task);
-    let due = in_ticks(task.deadline);
-    let release = task.release;
-    let times = match release {
-        Release::Once(instant) => ranged(instant <= 16000, 4, ranged(due, 5, whole)),
-        Release::Every(offset, period) => {
-            let repeated = ranged(in_ticks(period), 5, ranged(due, 6, whole));
-            ranged(offset <= 16000, 4, repeated)
+    ranged(within(task.server as usize, servers), 2)?;
+    ranged(in_ticks(task.work), 3)?;
+    match task.release {
+        Release::Once(instant) => {
+            ranged(instant <= 16000, 4)?;
+            ranged(in_ticks(task.deadline), 5)?;
         }
-    };
-    let worked = ranged(in_ticks(task.work), 3, times);
-    ranged(within(task.server as usize, servers), 2, worked)
+        Release::Every(offset, period) => {
+            ranged(offset <= 16000, 4)?;
+            ranged(in_ticks(period), 5)?;
+            ranged(in_ticks(task.deadline), 6)?;
+        }
+    }
+    Ok(Line::TaskIs(task))
 }
 
 // `once`: server, work, instant, deadline.
-fn once_line(servers: usize, line: &[u8]) -> Line
-    requires { length line.now ≤ 4096 }
+fn once_line(servers: usize, line: &[u8]) -> Result<Line, Wrong>
     ensures { result ≡ once_line servers line.now }
 {
-    if count(line) != 5 {
-        return Line::Wrong(Ground::FieldCount, 0);
-    }
-    let start = pair_at(line, 2, 3);
-    let Pair::Of(server, work) = start else {
-        return wrong_pair(start);
-    };
-    let times = pair_at(line, 4, 5);
-    let Pair::Of(instant, deadline) = times else {
-        return wrong_pair(times);
-    };
+    counted(line, 5)?;
+    let server = number_at(line, 2)?;
+    let work = number_at(line, 3)?;
+    let instant = number_at(line, 4)?;
+    let deadline = number_at(line, 5)?;
     let release = Release::Once(instant);
     let read = Task {
         server,
@@ -233,36 +170,26 @@ fn once_line(servers: usize, line: &[u8]) -> Line
 }
 
 // The deadline at a place: a number, or `-` for the period.
-fn deadline_at(line: &[u8], place: u32, period: u32) -> Number
-    requires { HasPlace line.now place }
-    ensures { result ≡ deadline_of (field_at line.now place) period }
+fn deadline_at(line: &[u8], place: u32, period: u32) -> Result<u32, Wrong>
+    requires { 0 < place }
+    ensures { ReadAt (deadline_of (field_at line.now place) period) place result }
 {
     if dash_at(line, place) {
-        return Number::Value(period);
+        return Ok(period);
     }
     number_at(line, place)
 }
 
 // `every`: server, work, offset, period, deadline or `-`.
-fn every_line(servers: usize, line: &[u8]) -> Line
-    requires { length line.now ≤ 4096 }
+fn every_line(servers: usize, line: &[u8]) -> Result<Line, Wrong>
     ensures { result ≡ every_line servers line.now }
 {
-    if count(line) != 6 {
-        return Line::Wrong(Ground::FieldCount, 0);
-    }
-    let start = pair_at(line, 2, 3);
-    let Pair::Of(server, work) = start else {
-        return wrong_pair(start);
-    };
-    let times = pair_at(line, 4, 5);
-    let Pair::Of(offset, period) = times else {
-        return wrong_pair(times);
-    };
-    let d = deadline_at(line, 6, period);
-    let Number::Value(deadline) = d else {
-        return wrong(d, 6);
-    };
+    counted(line, 6)?;
+    let server = number_at(line, 2)?;
+    let work = number_at(line, 3)?;
+    let offset = number_at(line, 4)?;
+    let period = number_at(line, 5)?;
+    let deadline = deadline_at(line, 6, period)?;
     let release = Release::Every(offset, period);
     let read = Task {
         server,
@@ -273,28 +200,39 @@ fn every_line(servers: usize, line: &[u8]) -> Line
     task(servers, read)
 }
 
-// A task line, behind so many servers and tasks.
-fn task_placed(servers: usize, tasks: usize, next: Line) -> Line
-    ensures { result ≡ task_placed servers tasks next }
+// The tests of a task line's place, behind so many servers and tasks.
+fn task_placed(servers: usize, tasks: usize) -> Result<(), Wrong>
+    ensures { result ≡ task_placed servers tasks (Ok tt) }
 {
-    let room = tested(tasks < 64, Ground::TooMany, next);
-    tested(0 < servers, Ground::Misplaced, room)
+    required(0 < servers, Ground::Misplaced, 0)?;
+    required(tasks < 64, Ground::TooMany, 0)
 }
 
 // What line `n` says, behind so many servers and tasks.
-pub fn read_line(line: &[u8], n: u32, servers: usize, tasks: usize) -> Line
-    requires { length line.now ≤ 4096 }
+pub fn read_line(line: &[u8], n: u32, servers: usize, tasks: usize) -> Result<Line, Wrong>
     ensures { result ≡ line_of n servers tasks line.now }
 {
-    match word(field(line, 0)) {
-        Word::Span => tested(n == 1, Ground::Misplaced, span_line(line)),
-        Word::Server => {
-            let room = tested(servers < 16, Ground::TooMany, server_line(line));
-            let first = tested(tasks == 0, Ground::Misplaced, room);
-            tested(1 < n, Ground::Misplaced, first)
+    let misplaced = Wrong {
+        ground: Ground::Misplaced,
+        place: 0,
+    };
+    match word(field(line, 0)).ok_or(misplaced)? {
+        Word::Span => {
+            required(n == 1, Ground::Misplaced, 0)?;
+            span_line(line)
         }
-        Word::Once => task_placed(servers, tasks, once_line(servers, line)),
-        Word::Every => task_placed(servers, tasks, every_line(servers, line)),
-        Word::Unknown => Line::Wrong(Ground::Misplaced, 0),
+        Word::Server => {
+            required(1 < n && tasks == 0, Ground::Misplaced, 0)?;
+            required(servers < 16, Ground::TooMany, 0)?;
+            server_line(line)
+        }
+        Word::Once => {
+            task_placed(servers, tasks)?;
+            once_line(servers, line)
+        }
+        Word::Every => {
+            task_placed(servers, tasks)?;
+            every_line(servers, line)
+        }
     }
 }

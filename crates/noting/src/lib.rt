@@ -6,7 +6,7 @@ ghost use Rattle.table.specs.Places.{Obeyed};
 ghost use Rattle.schedule.specs.Curves.{held_of};
 ghost use Rattle.noting.specs.Noted.{TasksNoted, of_below};
 
-use answers::TaskAnswer;
+use answers::Response;
 use judging::covering::covers;
 use judging::jobs::judge;
 use serving::share;
@@ -15,7 +15,7 @@ use table::Table;
 // What is noted of the tasks: each one's answer, and whether it runs in the tick asked for. Those not yet looked at are `None` and false.
 #[derive(Clone, Copy)]
 pub struct TaskNotes {
-    pub answers: [TaskAnswer; 64],
+    pub answers: [Response; 64],
     pub runs: [bool; 64],
 }
 
@@ -29,32 +29,21 @@ pub fn answer_tasks(
     part: &mut [u32],
     running: &mut [u32],
     spare: &mut [u32],
-    old: TaskNotes,
-) -> TaskNotes
+    notes: &mut TaskNotes,
+)
     requires { Obeyed table × ((i : ℕ) → server ≡ suc i → (i < table.servers_n) × (take n held.old ≡ held_of table i)) × (0 < server)
         × (n ≤ length held.old) × (16000 ≤ length held.old) × (16000 ≤ length part.old) × (16000 ≤ length running.old)
-        × (16000 ≤ length spare.old) × TasksNoted table tick (of_below table server) old }
-    ensures { TasksNoted table tick (of_below table (server + 1)) result × (length held.new ≡ length held.old)
-        × (length part.new ≡ length part.old) × (length running.new ≡ length running.old)
-        × (length spare.new ≡ length spare.old) }
+        × (16000 ≤ length spare.old) × TasksNoted table tick (of_below table server) notes.old }
+    ensures { TasksNoted table tick (of_below table (server + 1)) notes.new }
 {
-    let count = table.tasks_n;
-    let span = table.span;
-    let mut answers = old.answers;
-    let mut runs = old.runs;
     let mut left = n;
-    let mut j: usize = 0;
-    while j < count {
-        let task = table.tasks[j];
+    for (j, task) in table.tasks[..table.tasks_n].iter().enumerate() {
         if task.server == server {
-            let shares = share(task, span, left, held, part, running, spare);
-            let k = shares.running;
-            let response = judge(task, span, &running[..k]);
-            answers[j] = TaskAnswer { response };
-            runs[j] = covers(&running[..k], tick);
-            left = shares.left;
+            let counts = share(*task, table.span, left, held, part, running, spare);
+            let ticks = &running[..counts.taken];
+            notes.answers[j] = judge(*task, table.span, ticks);
+            notes.runs[j] = covers(ticks, tick);
+            left = counts.left;
         }
-        j += 1;
     }
-    TaskNotes { answers, runs }
 }

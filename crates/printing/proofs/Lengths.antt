@@ -13,8 +13,8 @@ use Rattle.answers.specs.declared.Analysis.{Analysis}
 use Rattle.answers.specs.declared.Response.{Response}
 use Rattle.answers.specs.declared.Response.TheVariants as response
 use Rattle.answers.specs.declared.ServerAnswer.{ServerAnswer}
-use Rattle.std.specs.Prelude.{Option, Some, None}
-use Rattle.answers.proofs.Within.{ResponseWithin, ShortWithin, ServerWithin, Within}
+use Rattle.std.specs.Prelude.{Option, Some, None, Ok, Err}
+use Rattle.answers.proofs.Within.{ResponseWithin, ShortWithin, ServerWithin, RefusalWithin, Within}
 use Rattle.putting.proofs.Lengths.{field_two, field_four, field_five, signed_five}
 use Rattle.printing.specs.Report.{refused_line, span_line, short_field, server_line, response_fields, task_line, listed, server_lines, task_lines, report_of}
 
@@ -86,14 +86,10 @@ module _ (a : Analysis) (w : Within a) (s : a.servers_n ≤ 16) (t : a.tasks_n �
       (λ u l. task_line_most (suc u) (get_or a.tasks u no_task_answer) (omega arith) (w.of_task u (omega arith)))
 
   -- 11, 16 times 22 and 64 times 33
-  pub report_most : length (report_of a) ≤ 2475
+  pub report_most : length (report_of (Ok a)) ≤ 2475
   unfolding report_of
-  report_most = go (eqb a.refusal.number 0)
-    where
-      lines : List ℕ
-      lines = server_lines a.servers a.servers_n 0 ++ task_lines a.tasks a.tasks_n 0
+  report_most = simp length-append (omega (arith, span_line_most a.span w.span, server_lines_most, task_lines_most))
 
-      go : (b : Bool) → length (pick b (span_line a.span ++ lines) (refused_line a.refusal)) ≤ 2475
-      go true =
-          simp length-append (omega (arith, span_line_most a.span w.span, server_lines_most, task_lines_most))
-      go false = omega (arith, refused_line_most a.refusal w.number w.line w.place)
+pub refused_report_most : (r : Refusal) → RefusalWithin r → length (report_of (Err r)) ≤ 2475
+unfolding report_of
+refused_report_most r w = omega (arith, refused_line_most r w.number w.line w.place)

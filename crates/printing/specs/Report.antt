@@ -1,5 +1,5 @@
 -- Document 01, 'What the report program prints': "Fields are parted by tabs, each line ends with a line feed."
-use Rattle.std.specs.Prelude.{ℕ, zero, suc, List, [], ◌∷◌, ◌++◌, Option, Some, None, get_or, eqb}
+use Rattle.std.specs.Prelude.{ℕ, zero, suc, List, [], ◌∷◌, ◌++◌, Option, Some, None, get_or, eqb, Result, Ok, Err}
 use Rattle.basics.specs.Choice.{pick}
 use Rattle.fields.specs.Fields.{span_word, server_word, dash}
 use Rattle.putting.specs.Decimal.{field, signed, feed}
@@ -74,8 +74,6 @@ task_lines answers k i = listed task_line no_task_answer answers k i
 
 -- ---- the report
 
-unfoldable pub report_of : Analysis → List ℕ
-report_of a =
-    pick (eqb a.refusal.number 0)
-    (span_line a.span ++ (server_lines a.servers a.servers_n 0 ++ task_lines a.tasks a.tasks_n 0))
-    (refused_line a.refusal)
+unfoldable pub report_of : Result Analysis Refusal → List ℕ
+report_of (Ok a) = span_line a.span ++ (server_lines a.servers a.servers_n 0 ++ task_lines a.tasks a.tasks_n 0)
+report_of (Err refusal) = refused_line refusal

@@ -1,7 +1,7 @@
 // The lines of a report, put on a page.
 #![tactic(auto)]
 
-ghost use Rattle.std.specs.Prelude.{ℕ, ◌+◌, ◌*◌, ◌≤◌, List, length};
+ghost use Rattle.std.specs.Prelude.{ℕ, ◌+◌, ◌*◌, ◌≤◌, List, length, IfOk, Ok};
 ghost use Rattle.answers.specs.declared.Response.TheVariants.{Worst};
 ghost use Rattle.putting.specs.Puts.{Put};
 ghost use Rattle.putting.specs.Pages.{Adds};
@@ -136,23 +136,24 @@ fn put_lines<T: Entry>(page: &mut Page<'_>, entries: &[T])
 fn put_analysis(page: &mut Page<'_>, analysis: Analysis)
     requires counts { (analysis.servers_n ≤ 16) × (analysis.tasks_n ≤ 64) }
     requires room { page.old.count + 4240 ≤ 1000000 }
-    ensures adds { Adds page.old page.new (report_of analysis) }
+    ensures adds { Adds page.old page.new (report_of (Ok analysis)) }
     ensures most { page.new.count ≤ page.old.count + 4240 }
 {
-    if analysis.refusal.number != 0 {
-        return put_refusal(page, analysis.refusal);
-    }
     put_span(page, analysis.span);
     put_lines(page, &analysis.servers[..analysis.servers_n]);
     put_lines(page, &analysis.tasks[..analysis.tasks_n]);
 }
 
-// Puts the report of an analysis at the front of a buffer, and answers how many bytes it has.
-pub fn put_report(out: &mut [u8], analysis: Analysis) -> usize
-    requires { (analysis.servers_n ≤ 16) × (analysis.tasks_n ≤ 64) }
+// Puts the report of an analysis, or the line of its refusal, at the front of a buffer, and answers how many bytes it has.
+#[tactic(auto, unfolding(crate::specs::Report::report_of))]
+pub fn put_report(out: &mut [u8], analysis: Result<Analysis, Refusal>) -> usize
+    requires { IfOk analysis (λ a. (a.servers_n ≤ 16) × (a.tasks_n ≤ 64)) }
     ensures { Put out.old out.new 0 (report_of analysis) result × (result ≤ 4240) }
 {
     let mut page = Page::new(out);
-    put_analysis(&mut page, analysis);
+    match analysis {
+        Ok(analysis) => put_analysis(&mut page, analysis),
+        Err(refusal) => put_refusal(&mut page, refusal),
+    }
     page.count
 }

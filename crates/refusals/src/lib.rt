@@ -1,11 +1,11 @@
 // Refusals: every ground on which a call turns its input away, its number, and the line and place that go with it.
 #![tactic(auto)]
 
-ghost use Rattle.std.specs.Prelude.{◌≡◌};
+ghost use Rattle.std.specs.Prelude.{◌≡◌, if◌then◌else◌, Ok, Err};
 ghost use Rattle.refusals.specs.Refusals.{number_of, refused_at, no_refusal};
 
 // What can be wrong: with a text, with lent buffers and curves, with arguments, with a state, with a table.
-#[derive(Clone, Copy)]
+#[derive(Clone, Copy, PartialEq, Eq)]
 pub enum Ground {
     TextTooLong,
     NotEnded,
@@ -31,18 +31,11 @@ pub enum Ground {
 
 // The number of what is wrong, in which line from 1 on and at which place of it, the first word being 1; 0 where there is none. All are 0 where
 // nothing is refused.
-#[derive(Clone, Copy)]
+#[derive(Clone, Copy, PartialEq, Eq)]
 pub struct Refusal {
     pub number: u32,
     pub line: u32,
     pub place: u32,
-}
-
-// How many numbers or bytes a call wrote to the front of the lent buffer.
-#[derive(Clone, Copy)]
-pub enum Written {
-    Count(usize),
-    Refused(Refusal),
 }
 
 // The number that 01 and 02 give what is wrong.
@@ -86,10 +79,26 @@ pub fn refused_at(ground: Ground, line: u32, place: u32) -> Refusal
 }
 
 // The refusal on a ground that has no line.
+impl From<Ground> for Refusal {
+    ghost from_gives = { λ ground refusal. refusal ≡ refused_at ground 0 0 };
+
+    fn from(ground: Ground) -> Refusal {
+        refused_at(ground, 0, 0)
+    }
+}
+
+// The refusal on a ground that has no line.
 pub fn refused(ground: Ground) -> Refusal
     ensures { result ≡ refused_at ground 0 0 }
 {
-    refused_at(ground, 0, 0)
+    Refusal::from(ground)
+}
+
+// What a call asks for: where it does not hold, the call is refused on the ground.
+pub fn required(holds: bool, ground: Ground) -> Result<(), Refusal>
+    ensures { result ≡ (if holds then Ok tt else Err (refused_at ground 0 0)) }
+{
+    if holds { Ok(()) } else { Err(ground.into()) }
 }
 
 // Where nothing is refused.

@@ -5,24 +5,22 @@ use mathlib.Core.List.{List}
 use mathlib.Core.Bool.{true}
 use native.Mathlib.Omega.{arith}
 use lib.ListN.{length, get_or, length-replicate}
+use Rattle.std.specs.Prelude.{Result, Ok, Err}
 use Rattle.table.specs.declared.Table.{Table}
 use Rattle.table.specs.Places.{Obeyed}
 use Rattle.table.proofs.Obeyed.{servers_most, tasks_most, span_most}
 use Rattle.refusals.specs.declared.Refusal.{Refusal}
 use Rattle.reading.specs.Reading.{reading_of}
-use Rattle.reading.specs.declared.Answer.{Answer}
-use Rattle.reading.specs.declared.Answer.TheVariants.{Accepted, Refused}
 use Rattle.reading.proofs.TurnedAway.{TurnedAway, turned_away}
 use Rattle.answers.specs.Answers.{server_answer, task_answer, no_server_answer, no_task_answer}
 use Rattle.answers.specs.Jobs.{ServerSays, TaskSays}
 use Rattle.answers.specs.declared.Analysis.{Analysis}
 use Rattle.answers.specs.declared.ServerAnswer.{ServerAnswer}
-use Rattle.answers.specs.declared.TaskAnswer.{TaskAnswer}
+use Rattle.answers.specs.declared.Response.{Response}
 use Rattle.answers.proofs.Entries.{entries_length, entry_is}
 use Rattle.answers.proofs.Saying.{server_says, task_says}
-use Rattle.answers.proofs.Within.{ResponseWithin, ServerWithin, Within, server_within, task_within}
-use Rattle.opening.specs.Opening.{answer_by}
-use Rattle.scheduling.specs.Analysing.{not_analysed, analysed, analysis_of, Says}
+use Rattle.answers.proofs.Within.{ResponseWithin, ServerWithin, RefusalWithin, Within, server_within, task_within}
+use Rattle.scheduling.specs.Analysing.{analysed, analysis_of, Says}
 use Rattle.reading.proofs.Accepted.{accepted_obeyed}
 
 -- ---- sizes
@@ -33,14 +31,6 @@ pub record Sized (a : Analysis) : Type 0 where
   pub tasks_most : a.tasks_n ≤ 64
   pub tasks_length : length a.tasks ≡ 64
 
-refused_sized : (refusal : Refusal) → Sized (not_analysed refusal)
-refused_sized refusal = record {
-  servers_most = omega arith;
-  servers_length = length-replicate 16 no_server_answer;
-  tasks_most = omega arith;
-  tasks_length = length-replicate 64 no_task_answer;
-}
-
 answered_sized : (table : Table) → Obeyed table → Sized (analysed table)
 answered_sized table ok = record {
   servers_most = servers_most table ok;
@@ -49,12 +39,12 @@ answered_sized table ok = record {
   tasks_length = entries_length (task_answer table) no_task_answer table.tasks_n 64 0;
 }
 
-pub analysis_sized : (text : List ℕ) → Sized (analysis_of text true)
-analysis_sized text = go (reading_of text).answer refl
+pub analysis_sized : (text : List ℕ) (a : Analysis) → analysis_of text true ≡ Ok a → Sized a
+analysis_sized text a q = go (reading_of text) refl
   where
-    go : (x : Answer) → (reading_of text).answer ≡ x → Sized (answer_by not_analysed analysed x (reading_of text).table)
-    go Accepted e = answered_sized (reading_of text).table (accepted_obeyed text e)
-    go (Refused refusal) e = refused_sized refusal
+    go : (x : Result Table Refusal) → reading_of text ≡ x → Sized a
+    go (Ok table) e = let is : analysed table ≡ a = cc (rw e at q) in subst Sized is (answered_sized table (accepted_obeyed text table e))
+    go (Err refusal) e = absurd (cc (rw e at q))
 
 -- ---- the entry at a place is the answer of the server or the task there
 
@@ -64,39 +54,37 @@ module _ (table : Table) (ok : Obeyed table) where
   server_entry says i h p =
       subst says (sym (entry_is (server_answer table) no_server_answer table.servers_n 16 i (omega (arith, servers_most table ok)) h)) p
 
-  task_entry : (says : TaskAnswer → Type 0) (k : ℕ) → k < table.tasks_n → says (task_answer table k)
+  task_entry : (says : Response → Type 0) (k : ℕ) → k < table.tasks_n → says (task_answer table k)
       → says (get_or (analysed table).tasks k no_task_answer)
   task_entry says k h p =
       subst says (sym (entry_is (task_answer table) no_task_answer table.tasks_n 64 k (omega (arith, tasks_most table ok)) h)) p
 
 -- ---- how large its numbers are
 
-refused_within : (refusal : Refusal) {table : Table} → TurnedAway 4097 refusal table → Within (not_analysed refusal)
-refused_within refusal t = record {
-  number = t.few;
-  line = t.line;
-  place = t.place;
-  span = omega arith;
-  of_server = λ i h. absurd (omega arith);
-  of_task = λ k h. absurd (omega arith);
-}
+refused_within : (refusal : Refusal) → TurnedAway 4097 refusal → RefusalWithin refusal
+refused_within refusal t = record { number = t.few; line = t.line; place = t.place }
 
 answered_within : (table : Table) → Obeyed table → Within (analysed table)
 answered_within table ok = record {
-  number = omega arith;
-  line = omega arith;
-  place = omega arith;
   span = span_most table ok;
   of_server = λ i h. server_entry table ok ServerWithin i h (server_within table ok i h);
-  of_task = λ k h. task_entry table ok (λ a. ResponseWithin a.response) k h (task_within table ok k h);
+  of_task = λ k h. task_entry table ok (λ a. ResponseWithin a) k h (task_within table ok k h);
 }
 
-pub analysis_within : (text : List ℕ) → Within (analysis_of text true)
-analysis_within text = go (reading_of text).answer refl
+-- of an analysis, and of the refusal of one
+pub analysis_within : (text : List ℕ) (a : Analysis) → analysis_of text true ≡ Ok a → Within a
+analysis_within text a q = go (reading_of text) refl
   where
-    go : (x : Answer) → (reading_of text).answer ≡ x → Within (answer_by not_analysed analysed x (reading_of text).table)
-    go Accepted e = answered_within (reading_of text).table (accepted_obeyed text e)
-    go (Refused refusal) e = refused_within refusal (turned_away text refusal e)
+    go : (x : Result Table Refusal) → reading_of text ≡ x → Within a
+    go (Ok table) e = let is : analysed table ≡ a = cc (rw e at q) in subst Within is (answered_within table (accepted_obeyed text table e))
+    go (Err refusal) e = absurd (cc (rw e at q))
+
+pub refusal_within : (text : List ℕ) (r : Refusal) → analysis_of text true ≡ Err r → RefusalWithin r
+refusal_within text r q = go (reading_of text) refl
+  where
+    go : (x : Result Table Refusal) → reading_of text ≡ x → RefusalWithin r
+    go (Ok table) e = absurd (cc (rw e at q))
+    go (Err refusal) e = let is : refusal ≡ r = cc (rw e at q) in subst RefusalWithin is (refused_within refusal (turned_away text refusal e))
 
 -- ---- what it says of the machine
 
@@ -106,11 +94,10 @@ analysed_says table ok = record {
   servers_count = refl;
   tasks_count = refl;
   of_server = λ i h. server_entry table ok (ServerSays table i) i h (server_says table ok i h);
-  of_task = λ k h. task_entry table ok (λ a. TaskSays table k a.response) k h (task_says table ok k h);
+  of_task = λ k h. task_entry table ok (λ a. TaskSays table k a) k h (task_says table ok k h);
 }
 
 -- demand 3, its second half: for every accepted text, with room enough, the answers are those of the machine's run
-pub analysis_is_machine : (text : List ℕ) → (reading_of text).answer ≡ Accepted → Says (reading_of text).table (analysis_of text true)
-analysis_is_machine text e =
-    let same : analysis_of text true ≡ analysed (reading_of text).table = rw e in
-    rw same (analysed_says (reading_of text).table (accepted_obeyed text e))
+pub analysis_is_machine : (text : List ℕ) (table : Table) → reading_of text ≡ Ok table
+    → (analysis_of text true ≡ Ok (analysed table)) × Says table (analysed table)
+analysis_is_machine text table e = (rw e, analysed_says table (accepted_obeyed text table e))

@@ -1,32 +1,30 @@
 // Who runs when, and what comes of it, worked out from curves on six lent work buffers.
 #![tactic(auto)]
 
-ghost use Rattle.std.specs.Prelude.{◌≡◌, ◌≤◌};
+ghost use Rattle.std.specs.Prelude.{◌≡◌, ◌≤◌, is_ok};
 ghost use Rattle.opening.specs.Opening.{roomy};
 ghost use Rattle.scheduling.specs.Buffers.{Buffers};
 ghost use Rattle.scheduling.specs.Working.{Works, told_by, listed_by};
 ghost use Rattle.scheduling.specs.Asking.{Asks};
 ghost use Rattle.scheduling.specs.Analysing.{Analyses};
 
-use answering::{Notes, answer_all, first_marked, no_notes};
+use answering::{Notes, answer_all, first_marked};
 use answers::Analysis;
 use buffers::clear_all;
 use opening::open_text;
 use refusals::Refusal;
 use table::Table;
 
-// Who holds a tick and who runs in it, 0 for none; or a refusal.
+// Who holds a tick and who runs in it, 0 for none.
 #[derive(Clone, Copy)]
 pub struct Who {
-    pub refusal: Refusal,
     pub holder: u32,
     pub runner: u32,
 }
 
-// What was worked out of a text's table, or a refusal, with nothing noted.
+// What was worked out of a text's table.
 #[derive(Clone, Copy)]
 struct Worked {
-    refusal: Refusal,
     table: Table,
     notes: Notes,
 }
@@ -41,80 +39,49 @@ fn work_out(
     held: &mut [u32],
     running: &mut [u32],
     spare: &mut [u32],
-) -> Worked
-    ensures { Works text.now tick (roomy free.old sum.old part.old held.old
-        running.old spare.old) result × Buffers result.refusal.number free.old sum.old part.old
+) -> Result<Worked, Refusal>
+    ensures works { Works text.now tick (roomy free.old sum.old part.old held.old
+        running.old spare.old) result }
+    ensures buffers { Buffers (is_ok result) free.old sum.old part.old
         held.old running.old spare.old free.new sum.new part.new held.new
         running.new spare.new }
 {
-    let opened = open_text(
-        text,
-        tick,
+    let rooms = [
         free.len(),
         sum.len(),
         part.len(),
         held.len(),
         running.len(),
         spare.len(),
-    );
-    let refusal = opened.refusal;
-    let table = opened.table;
-    if refusal.number != 0 {
-        let notes = no_notes();
-        return Worked {
-            refusal,
-            table,
-            notes,
-        };
-    }
+    ];
+    let table = open_text(text, tick, rooms)?;
     let notes = answer_all(table, tick, free, sum, part, held, running, spare);
     clear_all(free, sum, part, held, running, spare);
-    Worked {
-        refusal,
-        table,
-        notes,
-    }
+    Ok(Worked { table, notes })
 }
 
 // Who holds the tick and who runs in it: the first server and the first task that are marked.
 fn told(worked: Worked) -> Who
-    requires { (worked.table.servers_n ≤ 64) × (worked.table.tasks_n ≤ 64) }
+    requires { (worked.table.servers_n ≤ 16) × (worked.table.tasks_n ≤ 64) }
     ensures { result ≡ told_by worked }
 {
-    let refusal = worked.refusal;
-    let notes = worked.notes;
-    let servers = notes.servers;
-    let tasks = notes.tasks;
-    let holds = servers.holds;
-    let runs = tasks.runs;
-    let table = worked.table;
-    let holder = first_marked(holds, table.servers_n);
-    let runner = first_marked(runs, table.tasks_n);
-    Who {
-        refusal,
-        holder,
-        runner,
-    }
+    let Worked { table, notes } = worked;
+    let holder = first_marked(&notes.servers.holds[..table.servers_n]);
+    let runner = first_marked(&notes.tasks.runs[..table.tasks_n]);
+    Who { holder, runner }
 }
 
 // The answers of all servers and tasks.
 fn listed(worked: Worked) -> Analysis
     ensures { result ≡ listed_by worked }
 {
-    let refusal = worked.refusal;
-    let table = worked.table;
-    let notes = worked.notes;
-    let of_servers = notes.servers;
-    let of_tasks = notes.tasks;
-    let servers = of_servers.answers;
-    let tasks = of_tasks.answers;
+    let Worked { table, notes } = worked;
     Analysis {
-        refusal,
         span: table.span,
         servers_n: table.servers_n,
         tasks_n: table.tasks_n,
-        servers,
-        tasks,
+        servers: notes.servers.answers,
+        tasks: notes.tasks.answers,
     }
 }
 
@@ -128,13 +95,13 @@ pub fn who_at(
     held: &mut [u32],
     running: &mut [u32],
     spare: &mut [u32],
-) -> Who
+) -> Result<Who, Refusal>
     ensures { Asks text.now tick free.old sum.old part.old held.old
         running.old spare.old result free.new sum.new part.new held.new
         running.new spare.new }
 {
-    let worked = work_out(text, tick, free, sum, part, held, running, spare);
-    told(worked)
+    let worked = work_out(text, tick, free, sum, part, held, running, spare)?;
+    Ok(told(worked))
 }
 
 // The answers of all servers and tasks of a text's table.
@@ -146,12 +113,12 @@ pub fn analyse(
     held: &mut [u32],
     running: &mut [u32],
     spare: &mut [u32],
-) -> Analysis
+) -> Result<Analysis, Refusal>
     ensures { Analyses text.now free.old sum.old part.old held.old
         running.old spare.old result free.new sum.new part.new held.new
         running.new spare.new }
 {
     // tick 0 lies in every span
-    let worked = work_out(text, 0, free, sum, part, held, running, spare);
-    listed(worked)
+    let worked = work_out(text, 0, free, sum, part, held, running, spare)?;
+    Ok(listed(worked))
 }

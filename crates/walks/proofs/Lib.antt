@@ -1,2 +1,4 @@
+pub mod Fronts
 pub mod Buffers
 pub mod Sums
+pub mod Pieces

@@ -1,20 +1,22 @@
 -- The sum of two curves, a window at a time. Assumes nothing.
 use Prim.Native.Nat.{ℕ, suc, ◌+◌, ◌-◌, ◌≤◌, ◌<◌}
-use mathlib.Core.Path.{◌≡◌, refl, sym, ◌∙◌}
+use mathlib.Core.Path.{◌≡◌, refl, sym, ap, ◌∙◌}
 use mathlib.Core.List.{List, [], ◌∷◌}
 use mathlib.Core.Bool.{Bool, true, false}
+use native.Mathlib.Decide.{dec_lt}
 use native.Mathlib.Omega.{arith}
-use lib.ListN.{length, get_or, drop, drop_of_length-le}
+use lib.ListN.{length, get_or, take, drop}
 use lib.Dec.{leb}
 use borrow.Author.Tests.{le-leb, lt-leb}
 use Rattle.basics.specs.Choice.{pick}
-use Rattle.windows.specs.Windows.{end_of, is_plain}
+use Rattle.windows.specs.Windows.{end_of, is_plain, add_up}
 use Rattle.windows.specs.Walks.{place, merge, grow, grown}
 use Rattle.windows.proofs.Ticks.{Apart, apart_lower, plain_apart}
-use Rattle.windows.proofs.Adding.{Sorted, sorted_lower, sorted_apart, sorted_merge, grow_over}
-use Rattle.walks.specs.Steps.{InBoth, Takes, merge_ahead, sum_ahead}
-use Rattle.walks.specs.declared.adding.Both.{Both}
-use Rattle.windows.proofs.Turns.{Turn, plain_turn, drop_pair}
+use Rattle.windows.proofs.Adding.{Sorted, sorted_lower, sorted_apart, sorted_merge, grow_over, grown_is}
+use Rattle.walks.specs.Steps.{SumSound, SecondNext, Takes, merge_ahead, sum_ahead}
+use Rattle.walks.specs.declared.Step.{Step}
+use Rattle.walks.specs.declared.adding.Sum.{Sum}
+use Rattle.walks.proofs.Fronts.{behind, Faces, faces, no_window}
 
 -- the first start, if there is one, is above s
 abbrev pub Above : ℕ → List ℕ → Type 0
@@ -62,94 +64,113 @@ merge_left a b l (x ∷ (y ∷ r)) p = rw (merge_left a b l r (apart_lower (suc 
 
 -- ---- the next window of both
 
-pub above_end : (s : ℕ) (l : List ℕ) (i : ℕ) → length l ≤ i → Above s (drop i l)
-above_end s l i h = rw (drop_of_length-le l h) tt
+-- the second curve has the earlier start, or the first has none
+pub merge_second : (l m : List ℕ) → Faces m → Above (get_or m 0 0) l → merge l m ≡ get_or m 0 0 ∷ (get_or m 1 0 ∷ merge l (behind m))
+merge_second l m f a = ap (merge l) f.is ∙ merge_right (get_or m 0 0) (get_or m 1 0) l (behind m) a (rw f.is at f.apart)
 
-pub above_at : {s : ℕ} {l : List ℕ} {i : ℕ} → Turn l i → s < get_or l i 0 → Above s (drop i l)
-above_at {s} {l} {i} t k = rw (drop_pair l i t.pair) k
+-- the first curve has it
+pub merge_first : (l m : List ℕ) → Faces l → Apart (get_or l 0 0) m → merge l m ≡ get_or l 0 0 ∷ (get_or l 1 0 ∷ merge (behind l) m)
+merge_first l m f a = ap (λ (x : List ℕ). merge x m) f.is ∙ merge_left (get_or l 0 0) (get_or l 1 0) (behind l) m a
 
-pub apart_end : (s : ℕ) (l : List ℕ) (i : ℕ) → length l ≤ i → Apart s (drop i l)
-apart_end s l i h = rw (drop_of_length-le l h) tt
+-- what the walk takes
 
-pub apart_at : {s : ℕ} {l : List ℕ} {i : ℕ} → is_plain (drop i l) ≡ true → Turn l i → s ≤ get_or l i 0 → Apart s (drop i l)
-apart_at {s} {l} {i} p t k =
-    let q = rw (drop_pair l i t.pair) at (plain_apart 0 (drop i l) p) in
-    rw (drop_pair l i t.pair) (k, q.1, q.2)
-
-pub take_right : (l m : List ℕ) (w : Both) → InBoth l m w → w.j < length m → Above (get_or m w.j 0) (drop w.i l)
-    → Takes l m w (get_or m w.j 0) (get_or m (w.j + 1) 0) (record { i = w.i; j = w.j + 2 })
-take_right l m w p h a =
-    let t = plain_turn m w.j p.right h in
+pub takes_second : {w : Sum} {step : Step Sum} → SecondNext w → 2 ≤ length w.b.now → step.start ≡ get_or w.b.now 0 0 → step.end ≡ get_or w.b.now 1 0
+    → step.behind.a.now ≡ w.a.now → step.behind.b.now ≡ behind w.b.now → Takes w step
+takes_second {w} {step} n h es ee ea eb =
+    let f = faces w.b.now n.sound.right h in
     record {
-      is = rw (drop_pair m w.j t.pair) (merge_right _ _ _ _ a (rw (drop_pair m w.j t.pair) at (plain_apart 0 (drop w.j m) p.right)));
-      rises = t.front.rises;
-      bounded = t.front.bounded;
-      plain = record { left = p.left; right = t.later };
+      is = rw (es, ee, ea, eb) (merge_second w.a.now w.b.now f (sooner w.a.now n.sooner));
+      rises = omega (arith, f.rises);
+      bounded = omega (arith, f.bounded);
+      plain = record { left = rw ea n.sound.left; right = rw eb f.later };
     }
+  where
+    sooner : (l : List ℕ) → (0 < length l → (0 < length w.b.now) × (get_or w.b.now 0 0 < get_or l 0 0)) → Above (get_or w.b.now 0 0) l
+    sooner [] k = tt
+    sooner (a ∷ l) k = (k (omega arith)).1
 
-pub take_left : (l m : List ℕ) (w : Both) → InBoth l m w → w.i < length l → Apart (get_or l w.i 0) (drop w.j m)
-    → Takes l m w (get_or l w.i 0) (get_or l (w.i + 1) 0) (record { i = w.i + 2; j = w.j })
-take_left l m w p h a =
-    let t = plain_turn l w.i p.left h in
-    record {
-      is = rw (drop_pair l w.i t.pair) (merge_left _ _ _ _ a);
-      rises = t.front.rises;
-      bounded = t.front.bounded;
-      plain = record { left = t.later; right = p.right };
-    }
-
-pub take_none : (l m : List ℕ) (w : Both) → length l ≤ w.i → length m ≤ w.j → merge_ahead l m w ≡ []
+pub takes_none : {w : Sum} → SecondNext w → length w.b.now < 2 → merge_ahead w ≡ []
 unfolding merge
-take_none l m w h k = rw (drop_of_length-le l h, drop_of_length-le m k)
+takes_none {w} n h =
+    let none = no_window w.b.now n.sound.right h in
+    let empty : length w.b.now ≡ 0 = ap length none in
+    rw (none, no_window w.a.now n.sound.left (go empty (dec_lt 0 (length w.a.now))))
+  where
+    go : length w.b.now ≡ 0 → Dec (0 < length w.a.now) → length w.a.now < 2
+    go e (yes k) = absurd (omega (arith, (n.sooner k).0))
+    go e (no k) = omega arith
+
+pub second_next : {w : Sum} → SumSound w → length w.a.now < 2 → SecondNext w
+second_next {w} p h =
+    let e : length w.a.now ≡ 0 = ap length (no_window w.a.now p.left h) in
+    record { sound = p; sooner = λ k. absurd (omega arith) }
+
+pub takes_first : {w : Sum} {step : Step Sum} → SumSound w → 2 ≤ length w.a.now → (0 < length w.b.now → get_or w.a.now 0 0 ≤ get_or w.b.now 0 0)
+    → step.start ≡ get_or w.a.now 0 0 → step.end ≡ get_or w.a.now 1 0 → step.behind.a.now ≡ behind w.a.now → step.behind.b.now ≡ w.b.now → Takes w step
+takes_first {w} {step} p h k es ee ea eb =
+    let f = faces w.a.now p.left h in
+    record {
+      is = rw (es, ee, ea, eb) (merge_first w.a.now w.b.now f (later w.b.now p.right k));
+      rises = omega (arith, f.rises);
+      bounded = omega (arith, f.bounded);
+      plain = record { left = rw ea f.later; right = rw eb p.right };
+    }
+  where
+    later : (m : List ℕ) → is_plain m ≡ true → (0 < length m → get_or w.a.now 0 0 ≤ get_or m 0 0) → Apart (get_or w.a.now 0 0) m
+    later [] q i = tt
+    later (a ∷ []) q i = absurd (plain_apart 0 (a ∷ []) q)
+    later (a ∷ (b ∷ m)) q i = let t = plain_apart 0 (a ∷ (b ∷ m)) q in (i (omega arith), t.1, t.2)
 
 -- ---- an open window: it and what is left of both curves make the windows `whole`
 
-pub record Open (l m whole : List ℕ) (s f : ℕ) (w : Both) : Type 0 where
-  pub is : grow s f (merge_ahead l m w) ≡ whole
-  pub rises : s < f
-  pub bounded : f ≤ 1000000
-  pub sorted : Sorted s (merge_ahead l m w)
-  pub plain : InBoth l m w
+pub record Open (whole : List ℕ) (o : Step Sum) : Type 0 where
+  pub is : grow o.start o.end (merge_ahead o.behind) ≡ whole
+  pub rises : o.start < o.end
+  pub bounded : o.end ≤ 1000000
+  pub sorted : Sorted o.start (merge_ahead o.behind)
+  pub plain : SumSound o.behind
 
-pub open_first_lem : {l m : List ℕ} {o w : Both} {s e : ℕ} → InBoth l m o → Takes l m o s e w → Open l m (sum_ahead l m o) s e w
+pub open_first_lem : {w : Sum} {o : Step Sum} → SumSound w → Takes w o → Open (sum_ahead w) o
 unfolding grown
-open_first_lem {l} {m} {o} p t =
-    let a = drop o.i l in
-    let b = drop o.j m in
-    let q : Sorted 0 (merge_ahead l m o) = sorted_merge a b 0 (sorted_apart 0 a (plain_apart 0 a p.left)) (plain_apart 0 b p.right) in
+open_first_lem {w} p t =
+    let a = w.a.now in
+    let b = w.b.now in
+    let q : Sorted 0 (merge_ahead w) = sorted_merge a b 0 (sorted_apart 0 a (plain_apart 0 a p.left)) (plain_apart 0 b p.right) in
     record { is = rw t.is; rises = t.rises; bounded = t.bounded; sorted = (rw t.is at q).2; plain = t.plain }
 
 -- no window is left
-pub open_end : {l m whole : List ℕ} {w : Both} {s f : ℕ} → Open l m whole s f w → merge_ahead l m w ≡ [] → whole ≡ s ∷ (f ∷ sum_ahead l m w)
+pub open_end : {whole : List ℕ} {o : Step Sum} → Open whole o → merge_ahead o.behind ≡ [] → whole ≡ o.start ∷ (o.end ∷ sum_ahead o.behind)
 unfolding grow grown
 open_end p e = sym p.is ∙ rw e
 
 -- the next window starts later
-pub open_gap : {l m whole : List ℕ} {w x : Both} {s f t g : ℕ} → Open l m whole s f w → Takes l m w t g x → f < t → whole ≡ s ∷ (f ∷ sum_ahead l m w)
+pub open_gap : {whole : List ℕ} {o k : Step Sum} → Open whole o → Takes o.behind k → o.end < k.start → whole ≡ o.start ∷ (o.end ∷ sum_ahead o.behind)
 unfolding grow grown
-open_gap {f = f} {t = t} p k h = sym p.is ∙ rw (k.is, lt-leb t f h)
+open_gap {o = o} {k = k} p t h = sym p.is ∙ rw (t.is, lt-leb k.start o.end h)
 
 -- the next window is joined, and ends in time
-pub open_more : {l m whole : List ℕ} {w x : Both} {s f t g : ℕ} → Open l m whole s f w → Takes l m w t g x → t ≤ f → f + (g - t) ≤ 1000000
-    → Open l m whole s (f + (g - t)) x
+pub open_more : {whole : List ℕ} {o k : Step Sum} → Open whole o → Takes o.behind k → k.start ≤ o.end → o.end + (k.end - k.start) ≤ 1000000
+    → Open whole (record { start = o.start; end = o.end + (k.end - k.start); behind = k.behind })
 unfolding grow
-open_more {l} {m} {x = x} {s} {f} {t} {g} p k h b =
-    let o = rw k.is at p.sorted in
+open_more {o = o} {k = k} p t h b =
+    let q = rw t.is at p.sorted in
     record {
-      is = rw (k.is, le-leb t f h) at p.is;
+      is = rw (t.is, le-leb k.start o.end h) at p.is;
       rises = omega (arith, p.rises);
       bounded = b;
-      sorted = sorted_lower t s (merge_ahead l m x) o.0 o.2;
-      plain = k.plain;
+      sorted = sorted_lower k.start o.start (merge_ahead k.behind) q.0 q.2;
+      plain = t.plain;
     }
 
 -- it is joined, and ends too late
-pub open_over : {l m whole : List ℕ} {w x : Both} {s f t g : ℕ} → Open l m whole s f w → Takes l m w t g x → t ≤ f → 1000000 < f + (g - t) → 1000000 < end_of whole
+pub open_over : {whole : List ℕ} {o k : Step Sum} → Open whole o → Takes o.behind k → k.start ≤ o.end → 1000000 < o.end + (k.end - k.start)
+    → 1000000 < end_of whole
 unfolding grow
-open_over {l} {m} {x = x} {s} {f} {t} {g} p k h b =
-    let o = rw k.is at p.sorted in
-    let e = rw (k.is, le-leb t f h) at p.is in
-    rw (← e) (grow_over 1000000 s (f + (g - t)) (merge_ahead l m x) (omega (arith, p.rises)) (sorted_lower t s (merge_ahead l m x) o.0 o.2) b)
+open_over {o = o} {k = k} p t h b =
+    let f = o.end + (k.end - k.start) in
+    let q = rw t.is at p.sorted in
+    let e = rw (t.is, le-leb k.start o.end h) at p.is in
+    rw (← e) (grow_over 1000000 o.start f (merge_ahead k.behind) (omega (arith, p.rises)) (sorted_lower k.start o.start (merge_ahead k.behind) q.0 q.2) b)
 
 -- ---- how the sum ends
 
@@ -161,3 +182,8 @@ ends_pair {ahead} {more} {s} {e} p h = rw p (go more)
     go : (r : List ℕ) → leb (end_of (s ∷ (e ∷ r))) 1000000 ≡ leb (end_of r) 1000000
     go [] = le-leb e 1000000 h
     go (x ∷ r) = refl
+
+-- ---- the whole sum
+
+pub sum_starts : (a b : List ℕ) → is_plain a ≡ true → is_plain b ≡ true → grown (merge a b) ≡ add_up a b
+sum_starts a b p q = grown_is a b (plain_apart 0 a p) (plain_apart 0 b q)

@@ -7,8 +7,9 @@ use native.Mathlib.Omega.{arith}
 use native.Mathlib.Decide.{dec_le, ℕ_discrete}
 use lib.Dec.{leb, eqb}
 use borrow.Author.Tests.{leb-true, leb-false, eqb-true, eqb-false}
+use Rattle.std.specs.Prelude.{Option, Some, None}
 use Rattle.basics.specs.Choice.{pick}
-use Rattle.windows.specs.Windows.{cover, end_of, upto, Instant, at, not_provided, first_given, provide}
+use Rattle.windows.specs.Windows.{cover, end_of, upto, first_given, provide}
 use Rattle.windows.specs.Walks.{walk}
 use Rattle.windows.proofs.Ticks.{Apart, cover_one}
 use Rattle.windows.proofs.Counts.{upto_rises, count_cover, count_early, count_all}
@@ -19,9 +20,9 @@ pub record First (f : ℕ → ℕ) (n i : ℕ) : Type 0 where
   pub sooner : (j : ℕ) → j < i → upto f j < n
 
 -- what an answer says
-abbrev pub Says : (ℕ → ℕ) → ℕ → Instant → Type 0
-Says f n (at i) = First f n i
-Says f n not_provided = (j : ℕ) → upto f j < n
+abbrev pub Says : (ℕ → ℕ) → ℕ → Option ℕ → Type 0
+Says f n (Some i) = First f n i
+Says f n None = (j : ℕ) → upto f j < n
 
 first_once : (f : ℕ → ℕ) (n i j : ℕ) → First f n i → First f n j → i ≡ j
 first_once f n i j a b =
@@ -29,11 +30,11 @@ first_once f n i j a b =
     let q : ¬ (j < i) = λ h. omega (arith, a.sooner j h, b.given) in
     omega arith
 
-pub says_once : (f : ℕ → ℕ) (n : ℕ) (x y : Instant) → Says f n x → Says f n y → x ≡ y
-says_once f n (at i) (at j) a b = ap at (first_once f n i j a b)
-says_once f n (at i) not_provided a b = absurd (omega (arith, b i, a.given))
-says_once f n not_provided (at j) a b = absurd (omega (arith, a j, b.given))
-says_once f n not_provided not_provided a b = refl
+pub says_once : (f : ℕ → ℕ) (n : ℕ) (x y : Option ℕ) → Says f n x → Says f n y → x ≡ y
+says_once f n (Some i) (Some j) a b = ap Some (first_once f n i j a b)
+says_once f n (Some i) None a b = absurd (omega (arith, b i, a.given))
+says_once f n None (Some j) a b = absurd (omega (arith, a j, b.given))
+says_once f n None None a b = refl
 
 -- ---- by ticks
 
@@ -63,7 +64,7 @@ module _ (l : List ℕ) (n lo : ℕ) (p : Apart lo l) (z : 0 < n) where
     where
       go : (b : Bool) → eqb (upto (cover l) t) n ≡ b
           → (((j : ℕ) → j < suc t → upto (cover l) j < n) → end_of l < suc t + k → Says (cover l) n (first_given l n k (suc t)))
-          → Says (cover l) n (pick b (at t) (first_given l n k (suc t)))
+          → Says (cover l) n (pick b (Some t) (first_given l n k (suc t)))
       go true e ih = record { given = eqb-true (upto (cover l) t) n e; sooner = q }
       go false e ih = ih (λ j i. so_far j i (ℕ_discrete j t)) (omega arith)
         where
@@ -77,7 +78,7 @@ module _ (l : List ℕ) (n lo : ℕ) (p : Apart lo l) (z : 0 < n) where
   provide_says = search_says (suc (end_of l)) 0 (λ j i. absurd (omega arith)) (omega arith)
 
   -- "time to provide n is t exactly when the curve covers n ticks below t and tick t - 1 is covered"
-  pub provide_reached : (t : ℕ) → provide l n ≡ at t → (upto (cover l) t ≡ n) × (cover l (t - 1) ≡ 1)
+  pub provide_reached : (t : ℕ) → provide l n ≡ Some t → (upto (cover l) t ≡ n) × (cover l (t - 1) ≡ 1)
   unfolding upto
   provide_reached t e = go t (rw e at provide_says)
     where
@@ -87,9 +88,9 @@ module _ (l : List ℕ) (n lo : ℕ) (p : Apart lo l) (z : 0 < n) where
           let d : suc u - 1 ≡ u = omega arith in
           (f.given, rw d (omega (arith, f.given, f.sooner u (omega arith), cover_one l lo u p)))
 
-  pub reached_provide : (t : ℕ) → upto (cover l) t ≡ n → cover l (t - 1) ≡ 1 → provide l n ≡ at t
+  pub reached_provide : (t : ℕ) → upto (cover l) t ≡ n → cover l (t - 1) ≡ 1 → provide l n ≡ Some t
   unfolding upto
-  reached_provide t a b = says_once (cover l) n (provide l n) (at t) provide_says (record { given = a; sooner = λ j h. go t a b h })
+  reached_provide t a b = says_once (cover l) n (provide l n) (Some t) provide_says (record { given = a; sooner = λ j h. go t a b h })
     where
       go : {j : ℕ} (t : ℕ) → upto (cover l) t ≡ n → cover l (t - 1) ≡ 1 → j < t → upto (cover l) j < n
       go zero a b h = absurd (omega arith)
@@ -108,9 +109,9 @@ later s e n i r h p k f = record { given = here (dec_le i (suc e)); sooner = λ 
     here (yes q) = absurd (omega (arith, f.given, count_early r (suc e) i p q))
     here (no q) = omega (arith, f.given, count_cover s e r i h)
 
-later_says : (s e n : ℕ) (r : List ℕ) (x : Instant) → s < e → Apart (suc e) r → e - s < n → Says (cover r) (n - (e - s)) x → Says (cover (s ∷ (e ∷ r))) n x
-later_says s e n r (at i) h p k f = later s e n i r h p k f
-later_says s e n r not_provided h p k f = λ j. omega (arith, f j, count_cover s e r j h)
+later_says : (s e n : ℕ) (r : List ℕ) (x : Option ℕ) → s < e → Apart (suc e) r → e - s < n → Says (cover r) (n - (e - s)) x → Says (cover (s ∷ (e ∷ r))) n x
+later_says s e n r (Some i) h p k f = later s e n i r h p k f
+later_says s e n r None h p k f = λ j. omega (arith, f j, count_cover s e r j h)
 
 -- an instant in this window
 here_says : (s e n : ℕ) (r : List ℕ) → s < e → Apart (suc e) r → 0 < n → n ≤ e - s → First (cover (s ∷ (e ∷ r))) n (s + n)
@@ -126,7 +127,7 @@ walk_says (s ∷ []) lo n p z = absurd p
 walk_says (s ∷ (e ∷ r)) lo n p z = go (leb n (e - s)) refl (λ k. walk_says r (suc e) (n - (e - s)) p.2 (omega arith))
   where
     go : (b : Bool) → leb n (e - s) ≡ b → (e - s < n → Says (cover r) (n - (e - s)) (walk r (n - (e - s))))
-        → Says (cover (s ∷ (e ∷ r))) n (pick b (at (s + n)) (walk r (n - (e - s))))
+        → Says (cover (s ∷ (e ∷ r))) n (pick b (Some (s + n)) (walk r (n - (e - s))))
     go true q ih = here_says s e n r p.1 p.2 z (leb-true n (e - s) q)
     go false q ih = let k : e - s < n = leb-false n (e - s) q in later_says s e n r (walk r (n - (e - s))) p.1 p.2 k (ih k)
 

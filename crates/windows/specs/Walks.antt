@@ -1,8 +1,8 @@
 -- How the code goes about it, where that is not document 01's own way: the contracts of private functions cite this, those of the public
 -- calls do not. Laws in proofs/ join each to 01's definition.
-use Rattle.std.specs.Prelude.{ℕ, suc, ◌+◌, ◌-◌, max, List, [], ◌∷◌, leb, ltb}
+use Rattle.std.specs.Prelude.{ℕ, suc, ◌+◌, ◌-◌, max, List, [], ◌∷◌, leb, ltb, Option, Some, None}
 use Rattle.basics.specs.Choice.{pick}
-use Rattle.windows.specs.Windows.{join, parted, cut_at, Fit, Instant, at, not_provided}
+use Rattle.windows.specs.Windows.{join, parted, cut_at, Fit}
 
 -- ---- adding up: the windows of both in order, each joined to the open one if it starts in time
 
@@ -31,10 +31,10 @@ grown (a ∷ (b ∷ r)) = grow a b r
 
 -- ---- time to provide: window after window
 
-unfoldable pub walk : List ℕ → ℕ → Instant
-walk [] n = not_provided
-walk (s ∷ []) n = not_provided
-walk (s ∷ (e ∷ r)) n = pick (leb n (e - s)) (at (s + n)) (walk r (n - (e - s)))
+unfoldable pub walk : List ℕ → ℕ → Option ℕ
+walk [] n = None
+walk (s ∷ []) n = None
+walk (s ∷ (e ∷ r)) n = pick (leb n (e - s)) (Some (s + n)) (walk r (n - (e - s)))
 
 -- ---- cutting: from the instant `from` in the first window on
 

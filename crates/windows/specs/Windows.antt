@@ -1,6 +1,6 @@
 -- Document 01, 'Windows and curves'. A curve is the flat list of its windows' starts and ends. What happens at a tick is told by
 -- numbers: f t is how many units tick t has.
-use Rattle.std.specs.Prelude.{ℕ, zero, suc, ◌+◌, ◌-◌, ◌%◌, min, max, List, [], ◌∷◌, Bool, true, false, ◌&&◌, length, ltb, leb, eqb}
+use Rattle.std.specs.Prelude.{ℕ, zero, suc, ◌+◌, ◌-◌, ◌%◌, min, max, List, [], ◌∷◌, Bool, true, false, ◌&&◌, length, ltb, leb, eqb, Option, Some, None}
 use Rattle.basics.specs.Choice.{pick}
 
 -- ---- windows and curves
@@ -138,15 +138,11 @@ fit d s = fit_in (length d + length s) d s
 
 -- ---- time to provide
 
-pub data Instant : Type 0 where
-  at : ℕ → Instant
-  not_provided : Instant
-
--- the first instant, of the k from t on, at which the curve has given n ticks
-unfoldable pub first_given : List ℕ → ℕ → ℕ → ℕ → Instant
-first_given l n zero t = not_provided
-first_given l n (suc k) t = pick (eqb (upto (cover l) t) n) (at t) (first_given l n k (suc t))
+-- the first instant, of the k from t on, at which the curve has given n ticks; `None` is "not provided"
+unfoldable pub first_given : List ℕ → ℕ → ℕ → ℕ → Option ℕ
+first_given l n zero t = None
+first_given l n (suc k) t = pick (eqb (upto (cover l) t) n) (Some t) (first_given l n k (suc t))
 
 -- "the instant at which the curve has given n ticks, or 'not provided' if it has fewer"
-abbrev pub provide : List ℕ → ℕ → Instant
+abbrev pub provide : List ℕ → ℕ → Option ℕ
 provide l n = first_given l n (suc (end_of l)) 0

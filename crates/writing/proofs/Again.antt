@@ -9,7 +9,9 @@ use lib.ListN.{length, take, length-set, length-append}
 use lib.Seq.{take-suc-set, length-take-le, get_or-append_seam}
 use lib.Dec.{ltb}
 use borrow.Author.Tests.{lt-ltb, le-leb, ne_eqb}
+use Rattle.std.specs.Prelude.{Result}
 use Rattle.basics.proofs.Tests.{and_left, and_right}
+use Rattle.refusals.specs.declared.Refusal.{Refusal}
 use Rattle.table.specs.Rules.{all, server_obeys, task_obeys, servers_of, tasks_of}
 use Rattle.table.specs.Places.{Obeyed, Same}
 use Rattle.table.proofs.Entries.{all_append}
@@ -22,7 +24,6 @@ use Rattle.lines.specs.Lines.{line_of}
 use Rattle.reading.specs.Reading.{no_table, accepted, with_span, with_server, with_task, ended_of, after_line, read_lines, ends_with_feed, reading_of}
 use Rattle.lines.specs.declared.Line.{Line}
 use Rattle.lines.specs.declared.Line.TheVariants.{SpanIs, ServerIs, TaskIs}
-use Rattle.reading.specs.declared.Reading.{Reading}
 use Rattle.writing.specs.Text.{ended, span_fields, server_fields, task_fields, span_line, server_line, task_line, lines_in, text_of}
 use Rattle.writing.proofs.Parted.{without, line_without, lines_back}
 use Rattle.writing.proofs.Spoken.{picks_first, picks_second, span_clear, server_clear, task_clear, span_read, server_read, task_read}
@@ -129,7 +130,7 @@ tasked t (k ∷ ks) h = more (tasked (with_task t k) ks (omega (arith, length-se
 
 -- ---- line after line
 
-after : (line said : Line) (t : Table) (n : ℕ) (next : Table → Reading) (r : Reading) → line ≡ said → after_line said t n next ≡ r → after_line line t n next ≡ r
+after : (line said : Line) (t : Table) (n : ℕ) (next : Table → Result Table Refusal) (r : Result Table Refusal) → line ≡ said → after_line said t n next ≡ r → after_line line t n next ≡ r
 after line said t n next r e h = rw e h
 
 read_servers : (ss : List Server) (rest : List (List ℕ)) (t : Table) (n : ℕ) → t.tasks_n ≡ 0 → 1 < n → t.servers_n + length ss ≤ 16

@@ -8,21 +8,17 @@ mod table_writer;
 ghost use Rattle.writing.specs.Writing.{Writes};
 
 use counting::text_length;
-use refusals::{Ground, Written, refused};
+use refusals::{Ground, Refusal, required};
 use table::{Table, obeys_rules};
 use table_writer::put_text;
 
 // Writes the text of a table to the front of a buffer, if it fits. Its length is known before the first byte is written.
-pub fn write(table: Table, out: &mut [u8]) -> Written
+pub fn write(table: Table, out: &mut [u8]) -> Result<usize, Refusal>
     ensures { Writes table out.old result out.new }
 {
-    if !obeys_rules(table) {
-        return Written::Refused(refused(Ground::RulesBroken));
-    }
+    required(obeys_rules(table), Ground::RulesBroken)?;
     let n = text_length(table);
-    if out.len() < n {
-        return Written::Refused(refused(Ground::NoRoom));
-    }
+    required(n <= out.len(), Ground::NoRoom)?;
     put_text(out, table);
-    Written::Count(n)
+    Ok(n)
 }

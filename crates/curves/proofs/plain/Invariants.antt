@@ -1,10 +1,10 @@
--- What is left of the curve is plain from `low` just when the whole is plain.
-use Rattle.std.proofs.Common.{◌≡◌, ◌-◌, ◌≤◌, length, drop}
+-- What is ahead is plain from `low` on just when the whole is plain.
+use Rattle.std.proofs.Common.{◌≡◌, length}
 use Rattle.windows.specs.Windows.{plain_from, is_plain}
 use Rattle.curves.proofs.plain.Given as goal
 
-abbrev pub invariant-loop-i : goal.invariant-loop-i
-invariant-loop-i l = (l.i ≤ length l.curve) × (plain_from l.low (drop l.i l.curve) ≡ is_plain l.curve)
+abbrev pub invariant-loop-ahead : goal.invariant-loop-ahead
+invariant-loop-ahead l = plain_from l.low l.ahead ≡ is_plain l.curve
 
-abbrev pub decreases-loop-i : goal.decreases-loop-i
-decreases-loop-i l = length l.curve - l.i
+abbrev pub decreases-loop-ahead : goal.decreases-loop-ahead
+decreases-loop-ahead l = length l.ahead

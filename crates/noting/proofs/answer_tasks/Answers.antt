@@ -1,76 +1,70 @@
--- `noting::answer_tasks` meets its contract: a walk along the tasks, on the ticks that those before leave.
-use Rattle.std.proofs.Common.{◌-◌, false, refl, arith}
-use Rattle.std.proofs.lemmas.Grind.{common_steps}
-use Rattle.schedule.specs.Curves.{running_of}
-use Rattle.answers.specs.Answers.{task_answer, no_task_answer}
-use Rattle.noting.specs.Noted.{runs_at}
+use Rattle.std.proofs.Common.{suc, ◌≡◌, ◌-◌, arith}
+use Rattle.std.proofs.lemmas.List.{length-take-le}
+use Rattle.table.specs.Places.{task_at}
 use Rattle.table.proofs.Obeyed.{span_some, span_most, task_deadline}
-use Rattle.demands.proofs.Sums.{task_obeyed}
+use Rattle.demands.proofs.Sums.{counted, task_is, task_obeyed}
 use Rattle.serving.proofs.LeftTicks.{left_all, left_curve, served_plain}
-use Rattle.noting.proofs.Answering.{answering_starts, answer_place, mark_place, passes, takes, runs_in, answers_with, noted_turn}
+use Rattle.noting.proofs.Answering.{answering_starts, answering_ends, answering_own, answering_other}
+use Rattle.noting.proofs.answer_tasks.Goals.{then-task-server, else-task-server}
 use Rattle.noting.proofs.answer_tasks.Goals as goal
 
 pub loop-j-init : goal.loop-j-init
 loop-j-init c =
     let a = c.args in
     let placed = c.requires.1 (a.server - 1) (omega (arith, c.requires.2)) in
-    (answering_starts a.table a.server (left_all a.table (a.server - 1) a.held.now a.n c.requires.3 placed.1) c.requires.8, refl, refl, refl, refl)
+    answering_starts a.table a.server (left_all a.table (a.server - 1) a.held.now a.n c.requires.3 placed.1) c.requires.8
 
-pub share-shares-requires : goal.share-shares-requires
-share-shares-requires c =
-    let v = c.loop-j.invariant in
+pub share-counts-requires : goal.share-counts-requires
+share-counts-requires c =
     let p = c.requires in
-    let placed = p.1 (c.args.server - 1) (omega (arith, p.2)) in (
-      task_obeyed c.args.table p.0 c.loop-j.j c.loop-j-test.true,
-      span_some c.args.table p.0,
-      span_most c.args.table p.0,
-      left_curve v.0.left p.0 placed.0 (omega (arith, v.1, p.4)),
-      omega (arith, v.2, p.5),
-      omega (arith, v.3, p.6),
-      omega (arith, v.4, p.7),
+    let table = c.args.table in
+    let placed = p.1 (c.args.server - 1) (omega (arith, p.2)) in
+    let h = c.loop-j-test.true in (
+      rw (task_is table p.0 _ h) (task_obeyed table p.0 _ (counted table p.0 _ h)),
+      span_some table p.0,
+      span_most table p.0,
+      left_curve c.loop-j.invariant.left p.0 placed.0 (omega (arith, p.4)),
+      omega (arith, p.5),
+      omega (arith, p.6),
+      omega (arith, p.7),
     )
 
-pub judge-response-requires : goal.judge-response-requires
-judge-response-requires c =
+pub judge-requires : goal.judge-requires
+judge-requires c =
+    let p = c.requires in
+    let table = c.args.table in
     let h = c.loop-j-test.true in
-    let p = c.requires in (
-      task_obeyed c.args.table p.0 c.loop-j.j h,
-      (task_deadline c.args.table p.0 c.loop-j.j h).1,
-      span_most c.args.table p.0,
-      served_plain c.loop-j.invariant.0.left h (omega (arith, p.2)) p.0 c.share-shares.ensures.0,
+    let few = counted table p.0 _ h in
+    let same = task_is table p.0 _ h in
+    let own = rw same at c.if-task-server.true in
+    let place : (task_at table c.loop-j.j).server ≡ suc (c.args.server - 1) = omega (arith, own, p.2) in
+    let served = rw same at c.share-counts.ensures.0 in
+    rw same (
+      task_obeyed table p.0 _ few,
+      (task_deadline table p.0 _ few).1,
+      span_most table p.0,
+      served_plain c.loop-j.invariant.left few place p.0 served,
     )
 
 pub loop-j-preserved : goal.loop-j-preserved
 loop-j-preserved c =
-    let v = c.loop-j.invariant in
-    let h = c.loop-j-test.true in
     let p = c.requires in
-    let q = passes c.args.table c.args.server c.loop-j.j p.2 in
-    let e = takes c.args.table c.args.server c.loop-j.j p.2 in
     let table = c.args.table in
-    let s = c.args.server in
-    let j = c.loop-j.j in
-    let n = v.0.noted in
-    let r = runs_in table s j p.2 in
-    let a = answers_with table s j p.2 (running_of table j) refl in (
-      record {
-        left = record { within = omega arith; count = grind arith; front = grind (arith, q, e) };
-        noted =
-            record {
-              all = grind (arith, common_steps);
-              answered =
-                  noted_turn (task_answer table) no_task_answer table s j c.loop-j.answers _ h (answer_place v.0 p.0 p.2 h) n.answered
-                  (λ o. grind (arith, r, a))
-                  (λ o. grind arith);
-              marks = grind (arith, common_steps);
-              marked =
-                  noted_turn (runs_at table c.args.tick) false table s j c.loop-j.runs _ h (mark_place v.0 p.0 p.2 h) n.marked
-                  (λ o. grind (arith, r))
-                  (λ o. grind arith);
-            };
-      },
-      grind (arith, common_steps),
-      grind (arith, common_steps),
-      grind (arith, common_steps),
-      grind (arith, common_steps),
-    )
+    let h = c.loop-j-test.true in
+    let few = counted table p.0 _ h in
+    let same = task_is table p.0 _ h in
+    let v = c.loop-j.invariant in
+    elim c.if-task-server.branch [
+      | then-task-server w ↦
+          let own = rw same at w.if-task-server.true in
+          let served = rw same at w.share-counts.ensures.0 in
+          let left = rw same at w.share-counts.ensures.1 in
+          let judged = rw same at w.judge.ensures in
+          rw (w.held-is, w.left-is, w.notes-is) (answering_own v p.0 p.2 few own served left _ judged _ w.covers.ensures)
+      | else-task-server w ↦
+          let other = rw same at w.if-task-server.false in
+          rw (w.held-is, w.left-is, w.notes-is) (answering_other v p.0 p.2 few other)
+    ]
+
+pub returns : goal.returns
+returns c = answering_ends c.loop-j.invariant (omega (arith, c.loop-j-test.false, length-take-le c.args.table.tasks_n c.args.table.tasks c.requires.0.tasks))

@@ -1,15 +1,11 @@
--- The field that ends at a tab has been counted, and the byte of any other goes to the field that is open.
-use Rattle.std.proofs.Common.{arith}
-use Rattle.std.proofs.lemmas.Grind.{common_steps}
-use Rattle.fields.proofs.Splits.{pieces_here, pieces_next, pieces_end}
+use Rattle.std.proofs.Common.{eqb, rules, tests, ap, length, ◌∙◌}
+use Rattle.std.proofs.lemmas.Iterator.Splits.{YieldsList-from_slice_split}
+use Rattle.std.proofs.lemmas.Iterator.Consumers.{count_from_yields_List}
+use Rattle.fields.proofs.Library.{parts_are}
 use Rattle.fields.proofs.parting.count.Goals as goal
 
-pub loop-i-preserved : goal.loop-i-preserved
-loop-i-preserved c =
-    let l = c.loop-i in
-    let here = pieces_here 9 c.args.line.now l.i c.loop-i-test.true in
-    let next = pieces_next 9 c.args.line.now l.i c.loop-i-test.true in
-    grind (arith, common_steps, here, next)
-
 pub returns : goal.returns
-returns c = omega (arith, c.loop-i.invariant.1, pieces_end 9 c.args.line.now c.loop-i.i c.loop-i-test.false)
+returns c =
+    count_from_yields_List c.split.result c.count.result c.count.ensures.ran
+    (YieldsList-from_slice_split _ (λ b. eqb b 9) c.args.line.now c.split.ensures.rest c.split.ensures.done c.split.ensures.closure (λ x b q k. search (rules, tests)))
+    ∙ ap length (parts_are 9 c.args.line.now)
