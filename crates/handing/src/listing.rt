@@ -52,8 +52,7 @@ fn margin_number(response: Response) -> i32
 {
     match response {
         Response::Worst(worst) => worst.margin,
-        Response::Unfinished(_) => 0,
-        Response::None => 0,
+        Response::Unfinished(_) | Response::None => 0,
     }
 }
 
@@ -83,7 +82,7 @@ pub fn list_tasks(tasks: [Response; 64], n: usize, out: &mut [u32])
     list_rows(&tasks[..n], out);
 }
 
-// Lists the margins of the first n tasks.
+// Lists the margins of the first n tasks, which have signs: so they are no row of `put_row`.
 pub fn list_margins(tasks: [Response; 64], n: usize, margin: &mut [i32])
     requires { (length tasks ≡ 64) × (n ≤ 64) × (n ≤ length margin.old) }
     ensures { margin.new ≡ margins n tasks margin.old }

@@ -5,7 +5,7 @@ ghost use Rattle.std.specs.Prelude.{◌≡◌, ◌+◌, ◌≤◌, [], ◌∷◌
 ghost use Rattle.putting.specs.Pages.{Adds};
 ghost use Rattle.putting.specs.Decimal.{decimal, field, signed};
 
-// A lent buffer, and how many bytes are put at its front.
+// A lent buffer, and how many bytes are put at its front. Each call asks that they are 1,000,000 at the most, so that the count fits.
 #[derive(Drop)]
 pub struct Page<'a> {
     pub bytes: &'a mut [u8],

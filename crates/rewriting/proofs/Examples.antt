@@ -5,7 +5,6 @@ use mathlib.Core.List.{List}
 use Rattle.table.specs.declared.Table.{Table}
 use Rattle.reading.specs.Reading.{accepted, reading_of}
 use Rattle.reading.specs.Examples.{text_a, text_b, read_a, read_b}
-use Rattle.reading.specs.declared.Reading.{Reading}
 use Rattle.reading.proofs.Examples as read
 use Rattle.putting.specs.Decimal.{digits}
 use Rattle.printing.specs.Report.{refused_line}
@@ -16,7 +15,7 @@ use Rattle.rewriting.specs.Examples.{Checked}
 
 -- the text of a text whose table is known
 from_table : (text : List ℕ) (table : Table) → reading_of text ≡ accepted table → rewritten_of text ≡ text_of table
-from_table text table e = ap (λ (r : Reading). rewritten_by r.answer r.table) e
+from_table text table e = ap rewritten_by e
 
 pub checked : Checked
 unfolding digits refused_line

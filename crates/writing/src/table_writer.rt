@@ -6,7 +6,7 @@ ghost use Rattle.writing.specs.Text.{ended, text_of};
 use crate::line_writer::{Line, put_span};
 use table::Table;
 
-// Puts the lines of all servers or of all tasks behind `n` bytes.
+// Puts the lines of all servers or of all tasks behind `n` bytes: no struct of the buffer and the place, since each line is lent a part of it.
 fn put_lines<T: Line>(out: &mut [u8], n: usize, entries: &[T]) -> usize
     requires { n + length (ended (map T.line entries.now)) ≤ length out.old }
     ensures { Put out.old out.new n (ended (map T.line entries.now)) result }
