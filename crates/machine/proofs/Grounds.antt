@@ -9,7 +9,9 @@ use borrow.Author.Tests.{lt-ltb, ltb-true, ltb-false}
 use Rattle.table.specs.Rules.{obeys}
 use Rattle.table.specs.declared.Table.{Table}
 use Rattle.machine.specs.declared.State.{State}
-use Rattle.machine.specs.declared.Stepped.{Stepped}
+use Rattle.std.specs.Prelude.{Result, Ok, Err}
+use Rattle.refusals.specs.declared.Refusal.{Refusal}
+use Rattle.machine.specs.declared.Step.{Step}
 use Rattle.table.specs.Places.{server_at, first_of, none_of}
 use Rattle.machine.specs.Machine.{over_budget, over_work, accepts, stepped, refusal, step_of}
 use Rattle.table.proofs.Places.{first_is, none_at}
@@ -73,14 +75,14 @@ module _ (table : Table) (s : State) where
       go false e = refl
 
   -- the answer of a step
-  pub step_refused : accepts table s ≡ false → step_of table s ≡ refusal s
+  pub step_refused : accepts table s ≡ false → step_of table s ≡ Err refusal
   unfolding step_of
   step_refused e = rw e
 
-  pub step_accepted : accepts table s ≡ true → step_of table s ≡ stepped table s
+  pub step_accepted : accepts table s ≡ true → step_of table s ≡ Ok (stepped table s)
   unfolding step_of
   step_accepted e = rw e
 
   -- two outcomes that the contract of the step permits are equal
-  pub step_once : (r q : Stepped) → r ≡ step_of table s → q ≡ step_of table s → r ≡ q
+  pub step_once : (r q : Result Step Refusal) → r ≡ step_of table s → q ≡ step_of table s → r ≡ q
   step_once r q d e = d ∙ sym e

@@ -1,21 +1,23 @@
 -- Each server's first task with waiting work, noted on one walk up the tasks from the last. Assumes nothing.
-use Prim.Native.Nat.{ℕ, zero, suc, ◌-◌, ◌≤◌, ◌<◌}
-use mathlib.Core.Path.{◌≡◌, ap, ◌∙◌}
+use Prim.Native.Nat.{ℕ, zero, suc, ◌+◌, ◌-◌, ◌≤◌, ◌<◌}
+use mathlib.Core.Path.{◌≡◌, refl, sym, ap, ◌∙◌}
 use mathlib.Core.Logic.{◌≢◌}
 use mathlib.Core.List.{List}
-use mathlib.Core.Bool.{false}
+use mathlib.Core.Bool.{Bool, false}
 use native.Mathlib.Omega.{arith}
 use native.Mathlib.Decide.{ℕ_discrete}
-use lib.ListN.{length, get_or, set}
+use lib.ListN.{length, get_or, set, length-set, replicate, get_or-replicate}
+use Rattle.std.proofs.lemmas.List.{set-get_or}
 use lib.Seq.{get_or-set_same, get_or-set_other}
 use lib.Dec.{ltb}
-use borrow.Author.Tests.{eq-eqb, ne_eqb}
+use borrow.Author.Tests.{eq-eqb, ne_eqb, lt-ltb, le-ltb}
 use Rattle.basics.specs.Choice.{pick}
-use Rattle.table.specs.Rules.{no_task}
+use Rattle.table.specs.Rules.{no_server, no_task}
 use Rattle.table.specs.declared.Table.{Table}
 use Rattle.machine.specs.declared.State.{State}
-use Rattle.table.specs.Places.{first_of}
-use Rattle.machine.specs.Machine.{waits}
+use Rattle.table.specs.Places.{first_of, Obeyed}
+use Rattle.table.proofs.Obeyed.{servers_most, task_server}
+use Rattle.machine.specs.Machine.{waits, may_hold, qualifies}
 use Rattle.machine.specs.Parts.{Firsts, noted}
 
 -- the walk has come up to place j: what is noted for each server is its first task from there on
@@ -61,3 +63,44 @@ noted_turn table s firsts (suc j) b z h p q e from =
     let d : suc j - 1 ≡ j = omega arith in
     rw (e, d)
     (noted_more table s firsts j ((get_or table.tasks j no_task).server - 1) (omega (arith, rw d at p)) (omega arith) (omega (arith, rw d at p, rw d at q)) from)
+
+pub record Noted (table : Table) (s : State) (firsts : List ℕ) (j : ℕ) : Type 0 where
+  pub long : length firsts ≡ 16
+  pub from : NotedFrom table s firsts j
+
+-- the same, as the code has it: a task with waiting work is noted, and without it nothing changes
+module _ (table : Table) (ok : Obeyed table) (j : ℕ) (z : 0 < j) (h : j ≤ table.tasks_n) where
+  pub own_some : 1 ≤ (get_or table.tasks (j - 1) no_task).server
+  own_some = (task_server table ok (j - 1) (omega arith)).0
+
+  own_most : (get_or table.tasks (j - 1) no_task).server ≤ 16
+  own_most = omega (arith, (task_server table ok (j - 1) (omega arith)).1, servers_most table ok)
+
+  pub own_below : (get_or table.tasks (j - 1) no_task).server - 1 < 16
+  own_below = omega (arith, own_some, own_most)
+
+  module _ (s : State) (firsts : List ℕ) (n : Noted table s firsts j) where
+    turn : (b : ℕ) → b ≡ noted (get_or s.waiting (j - 1) 0) j (get_or firsts ((get_or table.tasks (j - 1) no_task).server - 1) 0)
+        → Noted table s (set firsts ((get_or table.tasks (j - 1) no_task).server - 1) b) (j - 1)
+    turn b e =
+        record {
+          long = length-set firsts ((get_or table.tasks (j - 1) no_task).server - 1) b ∙ n.long;
+          from = noted_turn table s firsts j b z h own_some (omega (arith, own_most, n.long)) e n.from;
+        }
+
+    pub noted_waits : 0 < get_or s.waiting (j - 1) 0 → Noted table s (set firsts ((get_or table.tasks (j - 1) no_task).server - 1) (j - 1 + 1)) (j - 1)
+    noted_waits w = turn (j - 1 + 1) (rw (lt-ltb 0 (get_or s.waiting (j - 1) 0) w) (omega arith))
+
+    pub noted_rests : get_or s.waiting (j - 1) 0 ≤ 0 → Noted table s firsts (j - 1)
+    noted_rests w =
+        let own = (get_or table.tasks (j - 1) no_task).server - 1 in
+        let same : set firsts own (get_or firsts own 0) ≡ firsts = set-get_or firsts own 0 in
+        rw same at (turn (get_or firsts own 0) (rw (le-ltb 0 (get_or s.waiting (j - 1) 0) w)))
+
+pub noted_starts : (table : Table) (s : State) → Noted table s (replicate 16 0) table.tasks_n
+noted_starts table s = record { long = refl; from = noted_none table s (replicate 16 0) (λ i h. get_or-replicate 16 i 0 0 h) }
+
+-- what is asked of a server is whether it qualifies
+pub asked : (table : Table) (s : State) (firsts : List ℕ) (i : ℕ) (b : Bool) → Firsts table s firsts → i < 16
+    → b ≡ may_hold (get_or s.budgets i 0) (get_or table.servers i no_server).kind (get_or firsts i 0) → qualifies table s i ≡ b
+asked table s firsts i b f h e = rw (← f i h) (sym e)

@@ -4,20 +4,18 @@ use mathlib.Core.Path.{◌≡◌, refl, sym, ◌∙◌}
 use mathlib.Core.List.{List}
 use mathlib.Core.Bool.{true}
 use native.Mathlib.Omega.{arith}
-use lib.ListN.{get_or}
+use lib.ListN.{length, get_or}
 use lib.Dec.{ltb}
 use borrow.Author.Tests.{ltb-true, ltb-false, le-ltb}
-use Rattle.refusals.specs.Refusals.{no_refusal}
 use Rattle.basics.proofs.Tests.{and_left, and_right}
 use Rattle.table.specs.Rules.{obeys}
 use Rattle.table.specs.declared.Table.{Table}
 use Rattle.machine.specs.declared.State.{State}
-use Rattle.machine.specs.declared.Stepped.{Stepped}
 use Rattle.table.specs.Places.{server_at, none_of, Obeyed}
-use Rattle.machine.specs.Machine.{holder_of, runner_of, spends, runs, ready, holder, runner, later, next, over_budget, over_work, accepts, step_of}
+use Rattle.machine.specs.Machine.{holder_of, runner_of, spends, runs, ready, holder, runner, later, next, over_budget, over_work, accepts, stepped}
 use Rattle.machine.specs.Parts.{Firsts, entry_of, Has}
 use Rattle.table.proofs.Places.{none_at, none_of_lem}
-use Rattle.table.proofs.Obeyed.{servers_most, tasks_most}
+use Rattle.table.proofs.Obeyed.{obeyed_of, servers_most, tasks_most}
 use Rattle.machine.proofs.OneTick.{Full, next_budget, refilled_most, holder_server, holder_budget, runner_task, runner_work}
 
 -- ---- what a step that is not refused shows
@@ -43,6 +41,10 @@ module _ (table : Table) (s : State) (e : accepts table s ≡ true) where
   pub accepted_work : none_of (over_work s) table.tasks_n ≡ true
   accepted_work = within.1
 
+  -- arrays of 16 and 64 hold what is counted
+  pub accepted_obeyed : length table.servers ≡ 16 → length table.tasks ≡ 64 → Obeyed table
+  accepted_obeyed p q = obeyed_of table accepted_rules p q
+
 -- ---- the holder and the runner have what they lose
 
 module _ (table : Table) (ok : Obeyed table) (s : State) where
@@ -67,10 +69,10 @@ module _ (table : Table) (ok : Obeyed table) (s : State) where
 
 -- ---- the whole step
 
-pub step_goes : (table : Table) (s x r : State) (h k : ℕ) → accepts table s ≡ true → r ≡ ready table s → h ≡ holder_of table r → k ≡ runner_of table r h
-    → x ≡ runs k (spends h r) → ◌≡◌ {A = Stepped} (record { refusal = no_refusal; next = later x; holder = h; runner = k }) (step_of table s)
-unfolding step_of next holder runner
-step_goes table s x r h k a b c d e = rw (a, e, d, c, b)
+pub step_goes : (table : Table) (s x r : State) (h k : ℕ) → r ≡ ready table s → h ≡ holder_of table r → k ≡ runner_of table r h
+    → x ≡ runs k (spends h r) → record { next = later x; holder = h; runner = k } ≡ stepped table s
+unfolding next holder runner
+step_goes table s x r h k b c d e = rw (e, d, c, b)
 
 -- from a state that the step accepts, budgets stay at most C
 module _ (table : Table) (ok : Obeyed table) (s : State) (full : Full table s) (e : accepts table s ≡ true) where

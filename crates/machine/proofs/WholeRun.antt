@@ -8,7 +8,7 @@ use native.Mathlib.Decide.{ℕ_discrete}
 use lib.ListN.{get_or, get_or-replicate}
 use lib.Dec.{eqb}
 use borrow.Author.Tests.{lt-ltb, le-ltb, eq-eqb, ne_eqb, eqb-true}
-use Rattle.refusals.specs.Refusals.{no_refusal}
+use Rattle.std.specs.Prelude.{Ok}
 use Rattle.basics.specs.Choice.{pick}
 use Rattle.windows.specs.Windows.{upto}
 use Rattle.windows.specs.Servers.{so_far}
@@ -203,6 +203,6 @@ module _ (table : Table) (ok : Obeyed table) where
       rw (ok.rules, k, budgets_fit t, work_fits t (omega (arith, span_most table ok)))
 
   pub run_steps : (t : ℕ) → t < table.span
-      → step_of table (state_before table t) ≡ record { refusal = no_refusal; next = state_before table (suc t); holder = holder_at table t; runner = runner_at table t }
+      → step_of table (state_before table t) ≡ Ok (record { next = state_before table (suc t); holder = holder_at table t; runner = runner_at table t })
   unfolding step_of state_before
   run_steps t h = rw (run_accepts t h)

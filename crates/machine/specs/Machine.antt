@@ -1,5 +1,5 @@
 -- Document 01, 'Servers, one tick at a time': the machine. A number counted from 1 is one more than its place in the table; 0 is none.
-use Rattle.std.specs.Prelude.{ℕ, zero, suc, ◌+◌, ◌-◌, ◌%◌, List, [], ◌∷◌, Bool, true, false, ◌&&◌, ◌||◌, get_or, set, ltb, eqb}
+use Rattle.std.specs.Prelude.{ℕ, zero, suc, ◌+◌, ◌-◌, ◌%◌, List, [], ◌∷◌, Bool, true, false, ◌&&◌, ◌||◌, get_or, set, ltb, eqb, Result, Ok, Err}
 use Rattle.table.specs.Places.{server_at, task_at, first_of, none_of}
 use Rattle.table.specs.Releases.{gains}
 use Rattle.basics.specs.Choice.{pick}
@@ -9,10 +9,11 @@ use Rattle.table.specs.declared.Kind.TheVariants.{Deferrable, Periodic}
 use Rattle.table.specs.declared.Server.{Server}
 use Rattle.table.specs.declared.Task.{Task}
 use Rattle.table.specs.declared.Table.{Table}
-use Rattle.refusals.specs.Refusals.{no_refusal, refused_for}
+use Rattle.refusals.specs.Refusals.{refused_for}
 use Rattle.refusals.specs.declared.Ground.TheVariants.{OutOfStep}
+use Rattle.refusals.specs.declared.Refusal.{Refusal}
 use Rattle.machine.specs.declared.State.{State}
-use Rattle.machine.specs.declared.Stepped.{Stepped}
+use Rattle.machine.specs.declared.Step.{Step}
 
 -- what stands beside each entry is made anew from both; "those of the state pass through" beyond the last entry
 unfoldable pub along : {A : Type 0} → (A → ℕ → ℕ) → List A → List ℕ → List ℕ
@@ -116,12 +117,12 @@ accepts table s =
     && (ltb s.tick table.span && (none_of (over_budget table s) table.servers_n && none_of (over_work s) table.tasks_n))
 
 -- "returns the next state, the holding server and the running task"
-abbrev pub stepped : Table → State → Stepped
-stepped table s = record { refusal = no_refusal; next = next table s; holder = holder table s; runner = runner table s }
+abbrev pub stepped : Table → State → Step
+stepped table s = record { next = next table s; holder = holder table s; runner = runner table s }
 
--- "a refused step also hands back the state it got, with 0 for server and task"
-abbrev pub refusal : State → Stepped
-refusal s = record { refusal = refused_for OutOfStep; next = s; holder = 0; runner = 0 }
+-- a refused step leaves the state that it got with whoever called
+abbrev pub refusal : Refusal
+refusal = refused_for OutOfStep
 
-unfoldable pub step_of : Table → State → Stepped
-step_of table s = pick (accepts table s) (stepped table s) (refusal s)
+unfoldable pub step_of : Table → State → Result Step Refusal
+step_of table s = pick (accepts table s) (Ok (stepped table s)) (Err refusal)

@@ -7,11 +7,12 @@ mod refusing;
 mod releasing;
 mod running;
 
-ghost use Rattle.std.specs.Prelude.{◌≡◌};
-ghost use Rattle.machine.specs.Machine.{refusal, step_of};
+ghost use Rattle.std.specs.Prelude.{◌≡◌, true};
+ghost use Rattle.machine.specs.Machine.{accepts, stepped, step_of};
+ghost use Rattle.table.specs.Places.{Obeyed};
 ghost use Rattle.machine.specs.Run.{all_zero};
 
-use refusals::{Ground, Refusal, no_refusal};
+use refusals::{Ground, Refusal, refused};
 use table::Table;
 
 // Before a tick: its number, each server's budget, each task's waiting work.
@@ -22,10 +23,9 @@ pub struct State {
     pub waiting: [u32; 64],
 }
 
-// What a step answers, or its refusal; holder and runner are 0 for none.
+// What a step answers; holder and runner are 0 for none.
 #[derive(Clone, Copy)]
-pub struct Stepped {
-    pub refusal: Refusal,
+pub struct Step {
     pub next: State,
     pub holder: u32,
     pub runner: u32,
@@ -42,26 +42,24 @@ pub fn start() -> State
     }
 }
 
-fn refused(state: State) -> Stepped
-    ensures { result ≡ refusal state }
-{
-    let refusal = refusals::refused(Ground::OutOfStep);
-    Stepped {
-        refusal,
-        next: state,
-        holder: 0,
-        runner: 0,
-    }
-}
-
 impl State {
-    // One tick of a table's machine, or refusal 13.
-    pub fn step(self, table: Table) -> Stepped
+    // One tick of a table's machine, or refusal 13: whoever calls still has the state.
+    #[tactic(auto, using(crate::proofs::Stepping::accepted_obeyed), unfolding(crate::specs::Machine::step_of))]
+    pub fn step(self, table: Table) -> Result<Step, Refusal>
         ensures { result ≡ step_of table self }
     {
         if !refusing::accepted(self, table) {
-            return refused(self);
+            return Err(refused(Ground::OutOfStep));
         }
+        Ok(self.after_tick(table))
+    }
+
+    // One tick from a state that is not refused.
+    fn after_tick(self, table: Table) -> Step
+        requires obeyed { Obeyed table }
+        requires accepted { accepts table self ≡ true }
+        ensures { result ≡ stepped table self }
+    {
         let filled = refilling::refill(self, table);
         let ready = releasing::release(filled, table);
         let firsts = picking::first_tasks(ready, table);
@@ -69,10 +67,8 @@ impl State {
         let runner = picking::first_task(holder, firsts);
         let spent = running::spend(ready, holder);
         let mut next = running::run(spent, runner);
-        next.tick = next.tick + 1;
-        let refusal = no_refusal();
-        Stepped {
-            refusal,
+        next.tick += 1;
+        Step {
             next,
             holder,
             runner,

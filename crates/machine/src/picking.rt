@@ -1,62 +1,33 @@
 // (3) and (4) Who holds the tick, and who runs in it.
 ghost use Rattle.std.specs.Prelude.{◌≡◌, ◌≤◌};
-ghost use Rattle.machine.specs.Machine.{is_periodic, may_hold, holder_of};
+ghost use Rattle.machine.specs.Machine.{may_hold, holder_of};
 ghost use Rattle.table.specs.Places.{Obeyed};
-ghost use Rattle.machine.specs.Parts.{Firsts, noted, entry_of};
+ghost use Rattle.machine.specs.Parts.{Firsts, entry_of};
 
 use crate::State;
 use table::{Kind, Table};
 
-// The first task seen so far, going up the table, once a task with so much waiting work is looked at.
-fn note(waiting: u32, number: u32, seen: u32) -> u32
-    ensures { result ≡ noted waiting number seen }
-{
-    if 0 < waiting {
-        return number;
-    }
-    seen
-}
-
-// Each server's first task with waiting work, or 0.
+// Each server's first task with waiting work, or 0: the walk goes up the table, so the lower number is noted last.
 pub fn first_tasks(state: State, table: Table) -> [u32; 16]
     requires { Obeyed table }
     ensures { Firsts table state result }
 {
-    let mut firsts: [u32; 16] = [0; 16];
-    let mut j = table.tasks_n;
-    while 0 < j {
-        let number = j as u32;
-        j -= 1;
-        let task = table.tasks[j];
-        let i = (task.server - 1) as usize;
-        let seen = firsts[i];
+    let mut firsts = [0; 16];
+    for j in (0..table.tasks_n).rev() {
+        let own = (table.tasks[j].server - 1) as usize;
         let waiting = state.waiting[j];
-        firsts[i] = note(waiting, number, seen);
+        if 0 < waiting {
+            firsts[own] = (j as u32) + 1;
+        }
     }
     firsts
 }
 
-// Whether a server holds a tick without work.
-fn holds_idle(kind: Kind) -> bool
-    ensures { result ≡ is_periodic kind }
-{
-    match kind {
-        Kind::Deferrable => false,
-        Kind::Periodic => true,
-    }
-}
-
-// Whether a server with such a budget and first task holds a tick that it is offered.
+// Whether a server with such a budget and first task holds a tick that it is offered: a periodic one does so without work.
 fn may_hold(budget: u32, kind: Kind, first: u32) -> bool
     ensures { result ≡ may_hold budget kind first }
 {
-    if budget == 0 {
-        return false;
-    }
-    if holds_idle(kind) {
-        return true;
-    }
-    0 < first
+    0 < budget && (kind == Kind::Periodic || 0 < first)
 }
 
 // The first server that has budget left, and is periodic or has waiting work, or 0.
@@ -64,18 +35,10 @@ pub fn first_server(state: State, table: Table, firsts: [u32; 16]) -> u32
     requires { Obeyed table × Firsts table state firsts }
     ensures { result ≡ holder_of table state }
 {
-    let n = table.servers_n;
-    let mut i: usize = 0;
-    while i < n {
-        let number = (i as u32) + 1;
-        let server = table.servers[i];
-        let kind = server.kind;
-        let first = firsts[i];
-        let budget = state.budgets[i];
-        if may_hold(budget, kind, first) {
-            return number;
+    for i in 0..table.servers_n {
+        if may_hold(state.budgets[i], table.servers[i].kind, firsts[i]) {
+            return (i as u32) + 1;
         }
-        i += 1;
     }
     0
 }
@@ -86,8 +49,8 @@ pub fn first_task(holder: u32, firsts: [u32; 16]) -> u32
     ensures { result ≡ entry_of firsts holder }
 {
     if holder == 0 {
-        return 0;
+        0
+    } else {
+        firsts[(holder - 1) as usize]
     }
-    let i = (holder - 1) as usize;
-    firsts[i]
 }

@@ -11,11 +11,11 @@ fn budget_at(server: Server, tick: u32, budget: u32) -> u32
     requires { 0 < server.period }
     ensures { result ≡ refilled tick server budget }
 {
-    let capacity = server.capacity;
     if tick % server.period == 0 {
-        return capacity;
+        server.capacity
+    } else {
+        budget
     }
-    budget
 }
 
 // Each server with the tick a multiple of its period has its budget set to its capacity.
@@ -24,14 +24,8 @@ pub fn refill(state: State, table: Table) -> State
     ensures { result ≡ refills table state }
 {
     let mut filled = state;
-    let n = table.servers_n;
-    let tick = state.tick;
-    let mut i: usize = 0;
-    while i < n {
-        let server = table.servers[i];
-        let old = filled.budgets[i];
-        filled.budgets[i] = budget_at(server, tick, old);
-        i += 1;
+    for (i, server) in table.servers[..table.servers_n].iter().enumerate() {
+        filled.budgets[i] = budget_at(*server, state.tick, filled.budgets[i]);
     }
     filled
 }

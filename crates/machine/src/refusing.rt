@@ -11,49 +11,30 @@ fn budgets_within(state: State, table: Table) -> bool
     requires { table.servers_n ≤ 16 }
     ensures { result ≡ none_of (over_budget table state) table.servers_n }
 {
-    let n = table.servers_n;
-    let mut i: usize = 0;
-    while i < n {
-        let server = table.servers[i];
-        let budget = state.budgets[i];
-        if server.capacity < budget {
-            return false;
-        }
-        i += 1;
-    }
-    true
+    let servers = &table.servers[..table.servers_n];
+    servers
+        .iter()
+        .zip(&state.budgets)
+        .all(|(server, budget)| *budget <= server.capacity)
 }
 
 // Whether no task's waiting work is above the limit.
-#[tactic(auto, using(crate::proofs::Limits::work_over))]
 fn work_within(state: State, table: Table) -> bool
     requires { table.tasks_n ≤ 64 }
     ensures { result ≡ none_of (over_work state) table.tasks_n }
 {
-    let n = table.tasks_n;
-    let mut j: usize = 0;
-    while j < n {
-        let waiting = state.waiting[j];
-        if 300000000 < waiting {
-            return false;
-        }
-        j += 1;
-    }
-    true
+    state.waiting[..table.tasks_n]
+        .iter()
+        .all(|waiting| *waiting <= 300000000)
 }
 
 // Whether a step from a state is not refused.
+#[tactic(auto, unfolding(crate::specs::Machine::accepts))]
 pub fn accepted(state: State, table: Table) -> bool
     ensures { result ≡ accepts table state }
 {
-    if !obeys_rules(table) {
-        return false;
-    }
-    if table.span <= state.tick {
-        return false;
-    }
-    if !budgets_within(state, table) {
-        return false;
-    }
-    work_within(state, table)
+    obeys_rules(table)
+        && state.tick < table.span
+        && budgets_within(state, table)
+        && work_within(state, table)
 }

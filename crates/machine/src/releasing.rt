@@ -15,12 +15,7 @@ fn falls_on(release: Release, tick: u32) -> bool
 {
     match release {
         Release::Once(instant) => tick == instant,
-        Release::Every(offset, period) => {
-            if tick < offset {
-                return false;
-            }
-            (tick - offset) % period == 0
-        }
+        Release::Every(offset, period) => offset <= tick && (tick - offset) % period == 0,
     }
 }
 
@@ -29,11 +24,11 @@ fn gain(task: Task, tick: u32) -> u32
     requires { release_obeys task.release ≡ true }
     ensures { result ≡ gains task tick }
 {
-    let release = task.release;
-    if falls_on(release, tick) {
-        return task.work;
+    if falls_on(task.release, tick) {
+        task.work
+    } else {
+        0
     }
-    0
 }
 
 // Each task with a release at the tick gains its work.
@@ -42,15 +37,8 @@ pub fn release(state: State, table: Table) -> State
     ensures { result ≡ releases table state }
 {
     let mut released = state;
-    let n = table.tasks_n;
-    let tick = state.tick;
-    let mut j: usize = 0;
-    while j < n {
-        let task = table.tasks[j];
-        let more = gain(task, tick);
-        let old = released.waiting[j];
-        released.waiting[j] = old + more;
-        j += 1;
+    for (j, task) in table.tasks[..table.tasks_n].iter().enumerate() {
+        released.waiting[j] += gain(*task, state.tick);
     }
     released
 }

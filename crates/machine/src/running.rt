@@ -10,13 +10,10 @@ pub fn spend(state: State, holder: u32) -> State
     requires { (holder ≤ 16) × Has state.budgets holder }
     ensures { result ≡ spends holder state }
 {
-    if holder == 0 {
-        return state;
-    }
-    let i = (holder - 1) as usize;
     let mut spent = state;
-    let budget = spent.budgets[i];
-    spent.budgets[i] = budget - 1;
+    if 0 < holder {
+        spent.budgets[(holder - 1) as usize] -= 1;
+    }
     spent
 }
 
@@ -25,12 +22,9 @@ pub fn run(state: State, runner: u32) -> State
     requires { (runner ≤ 64) × Has state.waiting runner }
     ensures { result ≡ runs runner state }
 {
-    if runner == 0 {
-        return state;
-    }
-    let j = (runner - 1) as usize;
     let mut ran = state;
-    let waiting = ran.waiting[j];
-    ran.waiting[j] = waiting - 1;
+    if 0 < runner {
+        ran.waiting[(runner - 1) as usize] -= 1;
+    }
     ran
 }

@@ -1,14 +1,15 @@
 -- The entries of a table within its count, one at a time. Assumes nothing.
 use Prim.Native.Nat.{ℕ, suc, ◌+◌, ◌≤◌, ◌<◌, min}
-use mathlib.Core.Path.{◌≡◌, sym, ap, ◌∙◌}
+use mathlib.Core.Path.{◌≡◌, refl, sym, ap, ◌∙◌}
 use mathlib.Core.List.{List, [], ◌∷◌, ◌++◌, map}
-use mathlib.Core.Bool.{Bool, true, false, ◌&&◌}
+use mathlib.Core.Bool.{Bool, true, ◌&&◌}
 use native.Mathlib.Numerals.{add-one}
 use native.Mathlib.Omega.{arith}
 use native.Mathlib.Decide.{dec_lt}
 use lib.ListN.{length, get_or, take, drop, drop_of_length-le, length-map}
 use lib.Seq.{drop-cons, get_or-take, length-take-le, take_all}
 use Rattle.basics.proofs.Tests.{and_left, and_right}
+use Rattle.std.specs.List.{list_all}
 use Rattle.table.specs.Rules.{all}
 
 module _ {A : Type 0} (xs : List A) (n : ℕ) (h : n ≤ length xs) where
@@ -25,16 +26,6 @@ module _ {A : Type 0} (xs : List A) (n : ℕ) (h : n ≤ length xs) where
     unfolding all
     all_next d i k = ap (all f) (entry_next d i k)
 
-    pub all_end : (i : ℕ) → n ≤ i → all f (drop i (take n xs)) ≡ true
-    unfolding all
-    all_end i k = ap (all f) (entry_end i k)
-
-    pub all_stops : (d : A) (i : ℕ) → i < n → f (get_or xs i d) ≡ false → all f (drop i (take n xs)) ≡ false
-    all_stops d i k e = all_next d i k ∙ rw e
-
-    pub all_goes : (d : A) (i : ℕ) → i < n → f (get_or xs i d) ≡ true → all f (drop i (take n xs)) ≡ all f (drop (i + 1) (take n xs))
-    all_goes d i k e = all_next d i k ∙ rw e
-
     -- what all entries pass, each does
     pub all_at : (d : A) (i : ℕ) → i < n → all f (drop i (take n xs)) ≡ true → (f (get_or xs i d) ≡ true) × (all f (drop (i + 1) (take n xs)) ≡ true)
     all_at d i k e =
@@ -42,6 +33,12 @@ module _ {A : Type 0} (xs : List A) (n : ℕ) (h : n ≤ length xs) where
         let b = all f (drop (i + 1) (take n xs)) in
         let w : (a && b) ≡ true = sym (all_next d i k) ∙ e in
         (and_left a b w, and_right a b w)
+
+-- the library's test of all entries
+pub all_is : {A : Type 0} (f : A → Bool) (xs : List A) → all f xs ≡ list_all f xs
+unfolding all
+all_is f [] = refl
+all_is f (x ∷ xs) = ap (λ b. f x && b) (all_is f xs)
 
 -- two lists whose entries all pass
 pub all_append : {A : Type 0} (f : A → Bool) (l m : List A) → all f l ≡ true → all f m ≡ true → all f (l ++ m) ≡ true

@@ -5,7 +5,11 @@ use mathlib.Core.Bool.{Bool, true, false, true≢false}
 use native.Mathlib.Numerals.{add-one}
 use native.Mathlib.Omega.{arith}
 use native.Mathlib.Decide.{dec_le, dec_lt}
+use mathlib.Core.List.{List}
+use lib.ListN.{length, get_or}
 use lib.Dec.{eqb}
+use Rattle.std.specs.Bool.{MatchBool}
+use Rattle.std.specs.List.{AllWithin, HoldsAt}
 use borrow.Author.Tests.{ne_eqb, eqb-true}
 use Rattle.basics.specs.Choice.{pick}
 use Rattle.table.specs.Places.{first_of, none_of}
@@ -113,3 +117,14 @@ none_of_lem p n h = go (first_of p n 0) refl
     go : (m : ℕ) → first_of p n 0 ≡ m → eqb m 0 ≡ true
     go zero e = refl
     go (suc m) e = let f = first_is p n 0 m e in absurd (true≢false (sym f.passes ∙ h m (omega (arith, f.below))))
+
+-- the library's test of all entries, where an entry passes just where its place does not
+module _ {A : Type 0} (xs : List A) (d : A) (p : ℕ → Bool) (Yes No : A → Type 0)
+    (yes : (i : ℕ) → i < length xs → Yes (get_or xs i d) → p i ≡ false) (no : (i : ℕ) → i < length xs → No (get_or xs i d) → p i ≡ true) where
+  pub none_from_all : (r : Bool) → MatchBool r (AllWithin Yes xs 0 (length xs)) ((k : ℕ) × (k < length xs) × HoldsAt No xs k) → r ≡ none_of p (length xs)
+  none_from_all true all = sym (none_of_lem p (length xs) (λ i h. yes i h (all i d (omega arith) h)))
+  none_from_all false some = go (none_of p (length xs)) refl
+    where
+      go : (b : Bool) → none_of p (length xs) ≡ b → false ≡ b
+      go true e = absurd (true≢false (sym (no some.0 some.1 (some.2 d)) ∙ none_at p (length xs) e some.0 some.1))
+      go false e = refl

@@ -1,34 +1,33 @@
 -- The span that a list of periods gives, pair by pair, is their least common multiple. Assumes nothing.
 use Prim.Native.Nat.{ℕ, zero, suc, ◌+◌, ◌%◌, ◌≤◌, ◌<◌, ◌∣◌}
-use mathlib.Core.Path.{◌≡◌, refl, sym, ap, ◌∙◌}
+use mathlib.Core.Path.{◌≡◌, refl, sym, ◌∙◌}
 use mathlib.Core.List.{List, [], ◌∷◌, ◌++◌, append_assoc, append-nil}
 use mathlib.Core.Bool.{Bool, true, false, true≢false}
 use native.Mathlib.Omega.{arith}
 use native.Mathlib.Nat.{dvd_refl, dvd_trans, le_of_dvd, pos_of_dvd_of_pos, mod-eq-zero_of_dvd, dvd_of_mod-eq-zero}
 use native.Mathlib.Decide.{ℕ_discrete}
-use lib.ListN.{length, get_or, take, drop}
+use lib.ListN.{length, get_or, take, drop, take-append-drop}
+use lib.Seq.{drop-cons}
+use Rattle.std.proofs.Common.{map-id}
+use Rattle.std.proofs.lemmas.Iterator.{YieldsList}
+use Rattle.std.proofs.lemmas.Iterator.Consumers.{YieldsList-so_far, YieldsList-turn, YieldsList-end}
+use Rattle.std.specs.Iterator.{Yields}
 use lib.Dec.{eqb}
 use borrow.Author.Tests.{eqb-true, le-leb}
 use Rattle.basics.specs.Choice.{pick}
 use Rattle.basics.proofs.Tests.{and_left, and_right}
-use Rattle.table.specs.Rules.{all, in_ticks, no_server, no_task}
+use Rattle.table.specs.Rules.{all, in_ticks}
 use Rattle.table.specs.Euclid.{IsLcm}
-use Rattle.table.specs.Span.{is_multiple, first_multiple, span_of, server_periods, every_period, task_periods}
-use Rattle.table.proofs.Entries.{entry_next}
+use Rattle.table.specs.Span.{is_multiple, first_multiple, span_of}
 use Rattle.table.specs.Multiples.{Divide, Spans, InSpan, JoinsAll}
-use Rattle.table.specs.declared.Server.{Server}
-use Rattle.table.specs.declared.Task.{Task}
-use Rattle.table.specs.declared.Release.{Release}
-use Rattle.table.specs.declared.Release.TheVariants.{Once, Every}
-use Rattle.table.specs.declared.Span.{Span}
-use Rattle.table.specs.declared.Span.TheVariants.{Ticks, Over}
+use Rattle.std.specs.Prelude.{Option, Some, None}
 
 -- ---- a period more
 
-pub joins_over : (periods : List ℕ) → JoinsAll Over periods Over
+pub joins_over : (periods : List ℕ) → JoinsAll None periods None
 joins_over periods = record { bounded = tt; leads = λ whole ahead s. s }
 
-pub joins_lcm : (m p r : ℕ) → IsLcm m p r → r ≤ 16000 → JoinsAll (Ticks m) (p ∷ []) (Ticks r)
+pub joins_lcm : (m p r : ℕ) → IsLcm m p r → r ≤ 16000 → JoinsAll (Some m) (p ∷ []) (Some r)
 joins_lcm m p r l h = record {
   bounded = (l.some, h);
   leads = λ whole ahead s. record {
@@ -39,7 +38,7 @@ joins_lcm m p r l h = record {
   };
 }
 
-pub joins_large : (m p r : ℕ) → IsLcm m p r → 16000 < r → JoinsAll (Ticks m) (p ∷ []) Over
+pub joins_large : (m p r : ℕ) → IsLcm m p r → 16000 < r → JoinsAll (Some m) (p ∷ []) None
 joins_large m p r l h = record {
   bounded = tt;
   leads = λ whole ahead s n z b d.
@@ -51,16 +50,16 @@ joins_large m p r l h = record {
 divisor_in_ticks : (p n : ℕ) → 0 < n → n ≤ 16000 → p ∣ n → in_ticks p ≡ true
 divisor_in_ticks p n z b d = rw (le-leb 1 p (pos_of_dvd_of_pos d z), le-leb p 16000 (omega (arith, le_of_dvd z d)))
 
-pub joins_outside : (m p : ℕ) → in_ticks p ≡ false → JoinsAll (Ticks m) (p ∷ []) Over
+pub joins_outside : (m p : ℕ) → in_ticks p ≡ false → JoinsAll (Some m) (p ∷ []) None
 joins_outside m p e = record {
   bounded = tt;
   leads = λ whole ahead s n z b d. true≢false (sym (divisor_in_ticks p n z b (s.into n d).1.0) ∙ e);
 }
 
-pub joins_none : (span : Span) → InSpan span → JoinsAll span [] span
+pub joins_none : (span : Option ℕ) → InSpan span → JoinsAll span [] span
 joins_none span b = record { bounded = b; leads = λ whole ahead s. s }
 
-pub joins_both : {a b c : Span} {ps qs : List ℕ} → JoinsAll a ps b → JoinsAll b qs c → JoinsAll a (ps ++ qs) c
+pub joins_both : {a b c : Option ℕ} {ps qs : List ℕ} → JoinsAll a ps b → JoinsAll b qs c → JoinsAll a (ps ++ qs) c
 joins_both {a} {b} {c} {ps} {qs} x y = record {
   bounded = y.bounded;
   leads = λ whole ahead s. y.leads whole ahead (x.leads whole (qs ++ ahead) (rw (append_assoc ps qs ahead) at s));
@@ -85,76 +84,59 @@ not_true true h = absurd (h refl)
 not_true false h = refl
 
 module _ (ps : List ℕ) where
-  search_finds : (m k n : ℕ) → n ≤ m → m < n + k → ((u : ℕ) → n ≤ u → u < m → Divide ps u → ⊥) → Divide ps m → first_multiple ps k n ≡ Ticks m
+  search_finds : (m k n : ℕ) → n ≤ m → m < n + k → ((u : ℕ) → n ≤ u → u < m → Divide ps u → ⊥) → Divide ps m → first_multiple ps k n ≡ Some m
   unfolding first_multiple
   search_finds m zero n h i q d = absurd (omega arith)
   search_finds m (suc k) n h i q d = go (ℕ_discrete n m) (search_finds m k (suc n))
     where
-      go : Dec (n ≡ m) → (suc n ≤ m → m < suc n + k → ((u : ℕ) → suc n ≤ u → u < m → Divide ps u → ⊥) → Divide ps m → first_multiple ps k (suc n) ≡ Ticks m)
-          → pick (is_multiple ps n) (Ticks n) (first_multiple ps k (suc n)) ≡ Ticks m
+      go : Dec (n ≡ m) → (suc n ≤ m → m < suc n + k → ((u : ℕ) → suc n ≤ u → u < m → Divide ps u → ⊥) → Divide ps m → first_multiple ps k (suc n) ≡ Some m)
+          → pick (is_multiple ps n) (Some n) (first_multiple ps k (suc n)) ≡ Some m
       go (yes e) ih = rw (e, divides_multiple ps m d)
       go (no e) ih =
           let f : is_multiple ps n ≡ false = not_true (is_multiple ps n) (λ t. q n (omega arith) (omega arith) (multiple_divides ps n t)) in
           rw f (ih (omega arith) (omega arith) (λ u a b. q u (omega arith) b) d)
 
-  search_none : (k n : ℕ) → ((u : ℕ) → n ≤ u → u < n + k → Divide ps u → ⊥) → first_multiple ps k n ≡ Over
+  search_none : (k n : ℕ) → ((u : ℕ) → n ≤ u → u < n + k → Divide ps u → ⊥) → first_multiple ps k n ≡ None
   unfolding first_multiple
   search_none zero n q = refl
   search_none (suc k) n q =
       let f : is_multiple ps n ≡ false = not_true (is_multiple ps n) (λ t. q n (omega arith) (omega arith) (multiple_divides ps n t)) in
       rw f (search_none k (suc n) (λ u a b. q u (omega arith) (omega arith)))
 
-  spans_start : Spans ps ps (Ticks 1)
+  spans_start : Spans ps ps (Some 1)
   spans_start = record { some = omega arith; small = omega arith; into = λ n d. (one_divides n, d); back = λ n a d. d }
     where
       one_divides : (n : ℕ) → 1 ∣ n
       one_divides n = dvd_of_mod-eq-zero 1 (omega arith)
 
-  spans_all : (r : Span) → Spans ps [] r → span_of ps ≡ r
-  spans_all (Ticks m) s =
+  spans_all : (r : Option ℕ) → Spans ps [] r → span_of ps ≡ r
+  spans_all (Some m) s =
       search_finds m 16000 1 s.some (omega (arith, s.small))
       (λ u a b d. omega (arith, le_of_dvd a (s.into u d).0)) (s.back m (dvd_refl m) tt)
-  spans_all Over s = search_none 16000 1 (λ u a b d. s u a (omega arith) d)
+  spans_all None s = search_none 16000 1 (λ u a b d. s u a (omega arith) d)
 
   -- the walk that starts with 1 and joins every period gives the least common multiple
-  pub joined_all : (r : Span) → JoinsAll (Ticks 1) ps r → r ≡ span_of ps
+  pub joined_all : (r : Option ℕ) → JoinsAll (Some 1) ps r → r ≡ span_of ps
   joined_all r j = sym (spans_all r (j.leads ps [] (rw (append-nil ps) spans_start)))
 
--- ---- one period after the other: of the periods ps, the periods qs are still to come
+split_at : (all : List ℕ) (n p : ℕ) (front : List ℕ) → front ≡ take n all → n < length all → p ≡ get_or all n p → front ++ (p ∷ drop (suc n) all) ≡ all
+split_at all n p front f l g = rw (f, g, ← drop-cons all n p l) (take-append-drop n all)
 
-pub record Passing (span : Span) (ps qs : List ℕ) (joint : Span) : Type 0 where
-  pub bounded : InSpan joint
-  pub leads : (whole ahead : List ℕ) → Spans whole (ps ++ ahead) span → Spans whole (qs ++ ahead) joint
+-- ---- a walk over all periods, which has passed some of them
 
-pub passing_start : (span : Span) (ps : List ℕ) → InSpan span → Passing span ps ps span
-passing_start span ps b = record { bounded = b; leads = λ whole ahead s. s }
+module _ {S : Type 0} {steps : S → Option ℕ → S → Type 0} {s : S} {all passed : List ℕ} {m : ℕ} {r : Option ℕ} (t u : S) (j : JoinsAll (Some 1) passed (Some m)) (y : Yields steps s passed t) (e : steps t r u) where
+  -- at one that has no multiple
+  pub span_stops : {p : ℕ} → r ≡ Some p → JoinsAll (Some m) (p ∷ []) None → YieldsList steps (λ p. p) s all → None ≡ span_of all
+  span_stops {p} is n road =
+      let front : passed ≡ take (length passed) all = sym (map-id passed) ∙ YieldsList-so_far road passed t y in
+      let turn : (length passed < length all) × (p ≡ get_or all (length passed) p) = YieldsList-turn road passed t y r u p is e in
+      let rest : List ℕ = drop (suc (length passed)) all in
+      let split : passed ++ (p ∷ rest) ≡ all = split_at all (length passed) p passed front turn.0 turn.1 in
+      joined_all all None (rw split at (joins_both j (joins_both {ps = p ∷ []} {qs = rest} n (joins_over rest))))
 
-pub passing_step : {span joint next : Span} {ps qs rs more : List ℕ} → Passing span ps qs joint → qs ≡ rs ++ more → JoinsAll joint rs next → Passing span ps more next
-passing_step {rs = rs} {more} p e j = record {
-  bounded = j.bounded;
-  leads = λ whole ahead s. j.leads whole (more ++ ahead) (rw (e, append_assoc rs more ahead) at (p.leads whole ahead s));
-}
-
-pub passing_end : {span joint : Span} {ps qs : List ℕ} → Passing span ps qs joint → qs ≡ [] → JoinsAll span ps joint
-passing_end p e = record { bounded = p.bounded; leads = λ whole ahead s. rw e at (p.leads whole ahead s) }
-
-pub every_append : (r : Release) (l : List ℕ) → every_period r l ≡ every_period r [] ++ l
-every_append (Once instant) l = refl
-every_append (Every offset period) l = refl
-
--- ---- an entry more
-
-module _ {span joint next : Span} {ps : List ℕ} where
-  pub server_passed : (xs : List Server) (n i : ℕ) → n ≤ length xs → i < n → Passing span ps (server_periods (drop i (take n xs))) joint
-      → JoinsAll joint ((get_or xs i no_server).period ∷ []) next → Passing span ps (server_periods (drop (i + 1) (take n xs))) next
-  unfolding server_periods
-  server_passed xs n i h k p j = passing_step p (ap server_periods (entry_next xs n h no_server i k)) j
-
-  pub task_passed : (xs : List Task) (n i : ℕ) → n ≤ length xs → i < n → Passing span ps (task_periods (drop i (take n xs))) joint
-      → JoinsAll joint (every_period (get_or xs i no_task).release []) next → Passing span ps (task_periods (drop (i + 1) (take n xs))) next
-  unfolding task_periods
-  task_passed xs n i h k p j =
-      passing_step p (ap task_periods (entry_next xs n h no_task i k) ∙ every_append (get_or xs i no_task).release (task_periods (drop (i + 1) (take n xs)))) j
+  -- after the last
+  pub span_ends : r ≡ None → YieldsList steps (λ p. p) s all → Some m ≡ span_of all
+  span_ends is road = joined_all all (Some m) (rw (sym (map-id passed) ∙ (YieldsList-end road passed t y r u is e).0) at j)
 
 -- ---- what the span is: the least number above 0 that every period divides, or none up to 16,000 is such
 
@@ -165,12 +147,12 @@ pub record IsFirst (ps : List ℕ) (k n h : ℕ) : Type 0 where
   pub divides : Divide ps h
   pub sooner : (u : ℕ) → n ≤ u → u < h → Divide ps u → ⊥
 
-abbrev pub SearchSays : List ℕ → ℕ → ℕ → Span → Type 0
-SearchSays ps k n (Ticks h) = IsFirst ps k n h
-SearchSays ps k n Over = (u : ℕ) → n ≤ u → u < n + k → Divide ps u → ⊥
+abbrev pub SearchSays : List ℕ → ℕ → ℕ → Option ℕ → Type 0
+SearchSays ps k n (Some h) = IsFirst ps k n h
+SearchSays ps k n None = (u : ℕ) → n ≤ u → u < n + k → Divide ps u → ⊥
 
-later_says : (ps : List ℕ) (k n : ℕ) (r : Span) → (Divide ps n → ⊥) → SearchSays ps k (suc n) r → SearchSays ps (suc k) n r
-later_says ps k n (Ticks h) q s = record {
+later_says : (ps : List ℕ) (k n : ℕ) (r : Option ℕ) → (Divide ps n → ⊥) → SearchSays ps k (suc n) r → SearchSays ps (suc k) n r
+later_says ps k n (Some h) q s = record {
   from = omega (arith, s.from);
   below = omega (arith, s.below);
   divides = s.divides;
@@ -180,7 +162,7 @@ later_says ps k n (Ticks h) q s = record {
     at_first : (u : ℕ) → n ≤ u → Divide ps u → Dec (u ≡ n) → u < h → ⊥
     at_first u a d (yes e) b = q (rw e at d)
     at_first u a d (no e) b = s.sooner u (omega arith) b d
-later_says ps k n Over q s = λ u a b d. at_first u a b d (ℕ_discrete u n)
+later_says ps k n None q s = λ u a b d. at_first u a b d (ℕ_discrete u n)
   where
     at_first : (u : ℕ) → n ≤ u → u < n + suc k → Divide ps u → Dec (u ≡ n) → ⊥
     at_first u a b d (yes e) = q (rw e at d)
@@ -194,7 +176,7 @@ unfolding first_multiple
 search_says ps zero n = λ u a b d. omega arith
 search_says ps (suc k) n = go (is_multiple ps n) refl (search_says ps k (suc n))
   where
-    go : (b : Bool) → is_multiple ps n ≡ b → SearchSays ps k (suc n) (first_multiple ps k (suc n)) → SearchSays ps (suc k) n (pick b (Ticks n) (first_multiple ps k (suc n)))
+    go : (b : Bool) → is_multiple ps n ≡ b → SearchSays ps k (suc n) (first_multiple ps k (suc n)) → SearchSays ps (suc k) n (pick b (Some n) (first_multiple ps k (suc n)))
     go true e s = record { from = omega arith; below = omega arith; divides = multiple_divides ps n e; sooner = λ u a b d. omega arith }
     go false e s = later_says ps k n (first_multiple ps k (suc n)) (λ d. clash (divides_multiple ps n d) e) s
 

@@ -8,9 +8,10 @@ mod rules;
 
 ghost use Rattle.std.specs.Prelude.{◌≡◌};
 ghost use Rattle.table.specs.Rules.{obeys};
+ghost use Rattle.table.specs.Span.{period_of};
 
 // Whether a server holds ticks without work.
-#[derive(Clone, Copy)]
+#[derive(Clone, Copy, PartialEq, Eq)]
 pub enum Kind {
     Deferrable,
     Periodic,
@@ -28,6 +29,18 @@ pub struct Server {
 pub enum Release {
     Once(u32),
     Every(u32, u32),
+}
+
+impl Release {
+    // The period, of a release that has one.
+    pub fn period(self) -> Option<u32>
+        ensures { result ≡ period_of self }
+    {
+        match self {
+            Release::Once(_) => None,
+            Release::Every(_, period) => Some(period),
+        }
+    }
 }
 
 #[derive(Clone, Copy)]
@@ -48,28 +61,13 @@ pub struct Table {
     pub tasks: [Task; 64],
 }
 
-// The span that all periods give.
-#[derive(Clone, Copy)]
-pub enum Span {
-    Ticks(u32),
-    Over,
-}
-
 // Whether a table obeys the rules: its counts, the ranges of its numbers, no capacity above its period, each task's server there.
 pub fn obeys_rules(table: Table) -> bool
     ensures { result ≡ obeys table }
 {
-    if !ranges::within(table.servers_n, 16) {
-        return false;
-    }
-    if !ranges::within(table.tasks_n, 64) {
-        return false;
-    }
-    if !ranges::in_ticks(table.span) {
-        return false;
-    }
-    if !rules::servers_obey(table) {
-        return false;
-    }
-    rules::tasks_obey(table)
+    ranges::within(table.servers_n, 16)
+        && ranges::within(table.tasks_n, 64)
+        && ranges::in_ticks(table.span)
+        && rules::servers_obey(table)
+        && rules::tasks_obey(table)
 }

@@ -6,18 +6,12 @@ ghost use Rattle.table.specs.Rules.{between, in_ticks};
 pub fn within(n: usize, most: usize) -> bool
     ensures { result ≡ between 1 most n }
 {
-    if n < 1 {
-        return false;
-    }
-    n <= most
+    (1..=most).contains(&n)
 }
 
 // Whether a number of ticks is 1 to 16,000.
 pub fn in_ticks(n: u32) -> bool
     ensures { result ≡ in_ticks n }
 {
-    if n < 1 {
-        return false;
-    }
-    n <= 16000
+    (1..=16000).contains(&n)
 }

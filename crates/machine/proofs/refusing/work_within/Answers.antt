@@ -1,11 +1,9 @@
--- `machine::refusing::work_within` meets its contract: a walk along the tasks for waiting work above the limit.
-use Rattle.std.proofs.Common.{sym, arith}
-use borrow.Author.Tests.{le-ltb}
-use Rattle.table.proofs.Places.{walk_goes_on, walk_none}
+use Rattle.std.proofs.Common.{rules, tests, take, ◌<◌, ◌≤◌}
+use Rattle.std.proofs.lemmas.Iterator.{YieldsList-from_slice, cases_from_all}
+use Rattle.machine.proofs.Limits.{work_none}
 use Rattle.machine.proofs.refusing.work_within.Goals as goal
 
-pub loop-j-preserved : goal.loop-j-preserved
-loop-j-preserved c = walk_goes_on c.loop-j.invariant c.loop-j-test.true (le-ltb 300000000 _ (omega arith))
-
 pub returns : goal.returns
-returns c = sym (walk_none c.loop-j.invariant c.loop-j-test.false)
+returns c =
+    work_none c.args.state c.args.table.tasks_n _ (search rules)
+    (cases_from_all _ _ _ (λ w. w ≤ 300000000) (λ w. 300000000 < w) c.all.ensures.ran (YieldsList-from_slice (take c.args.table.tasks_n c.args.state.waiting) (search rules)) (λ x q k. search (rules, tests)) (λ x q k. search (rules, tests)))
