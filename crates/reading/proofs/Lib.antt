@@ -1,5 +1,6 @@
 pub mod Rows
 pub mod Accepted
+pub mod Feeds
 pub mod LineCounts
 pub mod TurnedAway
 pub mod Examples

@@ -1,24 +1,25 @@
--- What the laws say of a line and of the rest of a text; `Feeds` is cited by the contract of a private function, and by no public one.
-use Rattle.std.specs.Prelude.{ℕ, ◌-◌, ◌<◌, ◌≡◌, Bool, true, false, List, length, get_or}
+-- What the laws say of a line; `told` and `HasRoom` are cited by the contracts of private functions, and by no public one.
+use Rattle.std.specs.Prelude.{ℕ, ◌<◌, ⊤, Result, Ok, Err}
 use Rattle.table.specs.declared.Table.{Table}
+use Rattle.refusals.specs.Refusals.{refused_at}
+use Rattle.refusals.specs.declared.Refusal.{Refusal}
 use Rattle.lines.specs.declared.Line.{Line}
-use Rattle.lines.specs.declared.Line.TheVariants.{SpanIs, ServerIs, TaskIs, Wrong}
-use Rattle.reading.specs.Reading.{with_span, with_server, with_task}
+use Rattle.lines.specs.declared.Line.TheVariants.{SpanIs, ServerIs, TaskIs}
+use Rattle.lines.specs.declared.Wrong.{Wrong}
+use Rattle.reading.specs.Reading.{with_line}
 
 -- a table with what a line says; a wrong line says nothing
-abbrev pub with_line : Table → Line → Table
-with_line t (SpanIs h) = with_span t h
-with_line t (ServerIs s) = with_server t s
-with_line t (TaskIs k) = with_task t k
-with_line t (Wrong w place) = t
+abbrev pub with_said : Table → Result Line Wrong → Table
+with_said t (Ok line) = with_line t line
+with_said t (Err wrong) = t
 
--- nothing is wrong with a line
-abbrev pub goes_on : Line → Bool
-goes_on (SpanIs h) = true
-goes_on (ServerIs s) = true
-goes_on (TaskIs k) = true
-goes_on (Wrong w place) = false
+-- what line n says, or the refusal of the text
+abbrev pub told : ℕ → Result Line Wrong → Result Line Refusal
+told n (Ok line) = Ok line
+told n (Err wrong) = Err (refused_at wrong.ground n wrong.place)
 
--- nothing, or bytes that end with a line feed
-pub record Feeds (l : List ℕ) : Type 0 where
-  pub ends : 0 < length l → get_or l (length l - 1) 0 ≡ 10
+-- a table has a place for what a line says
+abbrev pub HasRoom : Table → Line → Type 0
+HasRoom t (SpanIs h) = ⊤
+HasRoom t (ServerIs s) = t.servers_n < 16
+HasRoom t (TaskIs k) = t.tasks_n < 64
