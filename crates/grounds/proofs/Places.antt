@@ -6,6 +6,7 @@ use mathlib.Core.List.{List}
 use mathlib.Core.Bool.{Bool, true, false, true≢false, ◌||◌}
 use native.Mathlib.Omega.{arith}
 use lib.Dec.{eqb}
+use Rattle.std.specs.Prelude.{Option, Some, None}
 use Rattle.basics.specs.Choice.{pick}
 use Rattle.refusals.specs.Refusals.{number_of, last_place}
 use Rattle.refusals.specs.declared.Ground.{Ground}
@@ -15,7 +16,6 @@ use Rattle.fields.specs.Fields.{lines_of, field_at}
 use Rattle.fields.specs.declared.Word.{Word}
 use Rattle.fields.specs.declared.Word.TheVariants as word
 use Rattle.reading.specs.Reading.{no_table}
-use Rattle.reading.specs.declared.Reading.{Reading}
 use Rattle.grounds.specs.Grounds.{May, a_number, a_number_or_dash, a_kind, count_of, misplaced, too_many, field_count, bad_field, out_of_range}
 use Rattle.grounds.specs.Words.{BadNumber, no_byte, dash_alone, other_byte, zero_first, six_digits, BadKind, no_kind, other_kind, BadAs}
 use Rattle.grounds.specs.Texts.{GroundBehind, Reached, Whole, TextGround, long, unended, in_line, missing, over}
@@ -156,7 +156,7 @@ module _ (text : List ℕ) where
     bad_just_if : (x : Ground) → of_field (number_of x) ≡ true → ground_by (number_of x) ≡ x → JustIf (RefusedBy text (number_of x) k place) (BadThere text x k place)
     bad_just_if x o is = record {
       to = λ e. bad_there o (the_ground x (field_gives (number_of x) o) is e);
-      from = λ b. ap (λ (r : Reading). r.answer) (text_refused text (bad_ground b));
+      from = λ b. text_refused text (bad_ground b);
     }
 
     -- what she reads is so, and where it is so she reads it
@@ -165,7 +165,7 @@ module _ (text : List ℕ) where
       five = bad_just_if ground.Empty refl refl;
       six = record {
         to = λ e. out_there (the_ground ground.OutOfRange refl refl e);
-        from = λ o. ap (λ (r : Reading). r.answer) (text_refused text (out_ground o));
+        from = λ o. text_refused text (out_ground o);
       };
       fourteen = bad_just_if ground.Dash refl refl;
       fifteen = bad_just_if ground.NoDigit refl refl;
@@ -176,12 +176,12 @@ module _ (text : List ℕ) where
 
   -- ---- the place: of a field, or 0
 
-  count_most : (w : Word) → count_of w ≤ last_place
-  count_most word.Span = omega arith
-  count_most word.Server = omega arith
-  count_most word.Once = omega arith
-  count_most word.Every = omega arith
-  count_most word.Unknown = omega arith
+  count_most : (w : Option Word) → count_of w ≤ last_place
+  count_most (Some word.Span) = omega arith
+  count_most (Some word.Server) = omega arith
+  count_most (Some word.Once) = omega arith
+  count_most (Some word.Every) = omega arith
+  count_most None = omega arith
 
   place_within : {k place : ℕ} {above : Table} {line : List ℕ} → AtField k above line text place → (2 ≤ place) × (place ≤ last_place)
   place_within {k} {place} {above} {line} a = (a.there.behind, omega (arith, a.there.upto, count_most (the_word k above line)))

@@ -1,6 +1,6 @@
 -- Document 02, E2: "5, 6 and 14 to 18 give line and field's place, the line's first word being 1; other refusals give place 0." For each of these numbers
 -- what a text has that is refused by it, with this line and place.
-use Rattle.std.specs.Prelude.{ℕ, ◌≤◌, ◌≡◌, List, Bool, true, false, ◌||◌, eqb}
+use Rattle.std.specs.Prelude.{ℕ, ◌≤◌, ◌≡◌, List, Bool, true, false, ◌||◌, Option, Err, eqb}
 use Rattle.refusals.specs.Refusals.{last_place}
 use Rattle.refusals.specs.declared.Ground.{Ground}
 use Rattle.refusals.specs.declared.Ground.TheVariants.{Empty, Dash, NoDigit, LeadingZero, TooManyDigits, UnknownKind}
@@ -9,7 +9,6 @@ use Rattle.table.specs.declared.Table.{Table}
 use Rattle.fields.specs.Fields.{lines_of, field_at, word_of}
 use Rattle.fields.specs.declared.Word.{Word}
 use Rattle.reading.specs.Reading.{no_table, reading_of}
-use Rattle.reading.specs.declared.Answer.TheVariants.{Refused}
 use Rattle.grounds.specs.Grounds.{May, entry_at, range_there, Counted, InLine, GoodBefore, RangesBefore, AllGood}
 use Rattle.grounds.specs.Words.{BadAs}
 use Rattle.grounds.specs.Texts.{Reached, Whole}
@@ -33,11 +32,11 @@ PlaceOf false place = place ≡ 0
 
 -- a text is refused by a number, with a line and a place
 abbrev pub RefusedBy : List ℕ → ℕ → ℕ → ℕ → Type 0
-RefusedBy text number k place = (reading_of text).answer ≡ Refused (record { number = number; line = k; place = place })
+RefusedBy text number k place = reading_of text ≡ Err (record { number = number; line = k; place = place })
 
 -- line k, behind the table that the lines above it make, by its first word
 module _ (k : ℕ) (above : Table) (line : List ℕ) where
-  abbrev pub the_word : Word
+  abbrev pub the_word : Option Word
   the_word = word_of (field_at line 1)
 
   -- what may stand at a place
