@@ -2,16 +2,15 @@
 use Prim.Native.Nat.{ℕ}
 use mathlib.Core.Path.{◌≡◌, refl, sym, ap, ap₂, ◌∙◌}
 use mathlib.Core.List.{List, ◌∷◌, ◌++◌, map}
+use Rattle.std.specs.Prelude.{Ok}
 use Rattle.table.specs.Places.{Obeyed, Same}
 use Rattle.table.specs.declared.Server.{Server}
 use Rattle.table.specs.declared.Task.{Task}
 use Rattle.table.specs.declared.Table.{Table}
 use Rattle.reading.specs.Reading.{reading_of}
-use Rattle.reading.specs.declared.Answer.TheVariants.{Accepted}
-use Rattle.reading.specs.declared.Reading.{Reading}
 use Rattle.reading.proofs.Accepted.{accepted_obeyed}
 use Rattle.writing.specs.Text.{ended, span_line, server_line, task_line, text_of}
-use Rattle.writing.proofs.Again.{again_same, text_read}
+use Rattle.writing.proofs.Again.{again, again_same, text_read}
 
 -- ---- sameness
 
@@ -39,14 +38,12 @@ same_on s u = record {
 -- ---- "Reading what was written gives an equal table"
 
 pub record Back (table : Table) : Type 0 where
-  pub answer : (reading_of (text_of table)).answer ≡ Accepted
-  pub same : Same (reading_of (text_of table)).table table
+  pub read : Table
+  pub answer : reading_of (text_of table) ≡ Ok read
+  pub same : Same read table
 
 pub written_back : (table : Table) → Obeyed table → Back table
-written_back table o = record {
-  answer = ap (λ (x : Reading). x.answer) (text_read table o);
-  same = rw (text_read table o) (again_same table o);
-}
+written_back table o = record { read = again table; answer = text_read table o; same = again_same table o }
 
 -- ---- "equal tables give equal bytes"
 
@@ -56,16 +53,23 @@ same_bytes_lem s =
     (ap₂ (λ (ss : List Server) (ks : List Task). map server_line ss ++ map task_line ks) s.servers s.tasks)
 
 -- what was read back is written as before
-pub written_again : (table : Table) → Obeyed table → text_of (reading_of (text_of table)).table ≡ text_of table
-written_again table o = same_bytes_lem (written_back table o).same
+pub written_again : (table : Table) → Obeyed table → {read : Table} → reading_of (text_of table) ≡ Ok read → text_of read ≡ text_of table
+written_again table o {read} e =
+    let b = written_back table o in
+    let z = sym e ∙ b.answer in
+    let s : read ≡ b.read = cc in
+    rw s (same_bytes_lem b.same)
 
 -- and only they do
 pub bytes_same : {a b : Table} → Obeyed a → Obeyed b → text_of a ≡ text_of b → Same a b
 bytes_same {a} {b} p q e =
-    let x : Same (reading_of (text_of b)).table a = rw e at (written_back a p).same in
-    same_on (same_back x) (written_back b q).same
+    let x = written_back a p in
+    let y = written_back b q in
+    let z = sym x.answer ∙ (ap reading_of e ∙ y.answer) in
+    let s : x.read ≡ y.read = cc in
+    same_on (same_back x.same) (rw s y.same)
 
 -- ---- an accepted text need not be what is written, but its table can be written and read again
 
-pub read_written_read : (text : List ℕ) → (reading_of text).answer ≡ Accepted → Back (reading_of text).table
-read_written_read text e = written_back (reading_of text).table (accepted_obeyed text e)
+pub read_written_read : (text : List ℕ) {table : Table} → reading_of text ≡ Ok table → Back table
+read_written_read text {table} e = written_back table (accepted_obeyed text e)
