@@ -12,7 +12,7 @@ use mir.Val.{Fits}
 use borrow.Author.Tests.{lt-ltb, le-ltb, le-leb, ne_eqb}
 use Rattle.table.specs.Rules.{all}
 use Rattle.fields.specs.Fields.{is_digit, same_bytes, digits_from, starts_with_zero, field_number, dash}
-use Rattle.fields.specs.declared.Number.TheVariants.{Value}
+use Rattle.std.specs.Prelude.{Ok}
 use Rattle.putting.specs.Decimal.{digits, decimal}
 
 -- ---- which digits
@@ -151,7 +151,7 @@ module _ (n : ℕ) (l : List ℕ) (w : Written n l) where
   written_value = ap (digits_from 0) (sym (append-nil l)) ∙ w.value []
 
 -- a number up to 99,999 is read as it was written
-pub decimal_reads : (n : ℕ) → n ≤ 99999 → field_number (decimal n) ≡ Value n
+pub decimal_reads : (n : ℕ) → n ≤ 99999 → field_number (decimal n) ≡ Ok n
 decimal_reads n h =
     let w = digits_written (suc n) n (omega arith) in
     let five = decimal_below 4 n (omega arith) in
