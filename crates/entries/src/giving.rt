@@ -1,6 +1,6 @@
 // From an entry to its row.
 ghost use Rattle.std.specs.Prelude.{◌≡◌};
-ghost use Rattle.entries.specs.Entries.{kind_number, server_row, release_number, release_first, release_period, task_row};
+ghost use Rattle.entries.specs.Entries.{kind_number, server_row, release_row, task_row};
 
 use table::{Kind, Release, Server, Task};
 
@@ -18,38 +18,16 @@ fn kind_number(kind: Kind) -> u32
 pub fn server_row(server: Server) -> [u32; 3]
     ensures { result ≡ server_row server }
 {
-    let kind = server.kind;
-    let number = kind_number(kind);
-    [number, server.capacity, server.period]
+    [kind_number(server.kind), server.capacity, server.period]
 }
 
-// A task's kind of release as a number.
-fn release_number(release: Release) -> u32
-    ensures { result ≡ release_number release }
+// A release as three numbers: its kind, the instant or the offset, and the period, 0 where there is none.
+fn release_row(release: Release) -> [u32; 3]
+    ensures { result ≡ release_row release }
 {
     match release {
-        Release::Once(_) => 1,
-        Release::Every(_, _) => 2,
-    }
-}
-
-// The instant or the offset.
-fn release_first(release: Release) -> u32
-    ensures { result ≡ release_first release }
-{
-    match release {
-        Release::Once(instant) => instant,
-        Release::Every(offset, _) => offset,
-    }
-}
-
-// The period; 0 where there is none.
-fn release_period(release: Release) -> u32
-    ensures { result ≡ release_period release }
-{
-    match release {
-        Release::Once(_) => 0,
-        Release::Every(_, period) => period,
+        Release::Once(instant) => [1, instant, 0],
+        Release::Every(offset, period) => [2, offset, period],
     }
 }
 
@@ -57,9 +35,6 @@ fn release_period(release: Release) -> u32
 pub fn task_row(task: Task) -> [u32; 6]
     ensures { result ≡ task_row task }
 {
-    let release = task.release;
-    let number = release_number(release);
-    let first = release_first(release);
-    let period = release_period(release);
-    [task.server, task.work, number, first, period, task.deadline]
+    let [kind, first, period] = release_row(task.release);
+    [task.server, task.work, kind, first, period, task.deadline]
 }
