@@ -8,7 +8,7 @@ use native.Mathlib.Omega.{arith}
 use lib.ListN.{length, get_or, take, drop, take-append-drop, length-append, length-drop, get_or-append}
 use borrow.Rule.Slice.PartMut.{put_mid}
 use Rattle.std.proofs.lemmas.Slice.{take-put_mid, drop-put_mid}
-use lib.Seq.{sets, sets-eq, length-sets, take-suc, take_all, take-append_seam, drop-append-add, drop-drop, get_or-append-add, length-take-le}
+use lib.Seq.{sets, sets-eq, length-sets, take-suc, take-append_seam, drop-append-add, drop-drop, get_or-append-add, length-take-le}
 use Rattle.refusals.specs.Outcomes.{front}
 use Rattle.entries.specs.Entries.{rows}
 

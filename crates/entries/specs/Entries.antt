@@ -56,6 +56,10 @@ rows f (a ∷ l) = f a ++ rows f l
 abbrev pub kind_from : ℕ → Option Kind
 kind_from number = pick (eqb number 1) (Some Deferrable) (pick (eqb number 2) (Some Periodic) None)
 
+-- the release of three numbers, if there is such a kind of release; the period of `once` is not looked at
+abbrev pub release_from : (kind first period : ℕ) → Option Release
+release_from kind first period = pick (eqb kind 1) (Some (Once first)) (pick (eqb kind 2) (Some (Every first period)) None)
+
 abbrev pub server_from : (kind capacity period : ℕ) → Server
 server_from kind capacity period =
     pick (eqb kind 1) (record { kind = Deferrable; capacity = capacity; period = period })

@@ -6,17 +6,15 @@ pub mod placing;
 mod row;
 mod taking;
 
-ghost use Rattle.std.specs.Prelude.{◌≡◌, ◌+◌, ◌*◌, ◌≤◌, length};
-ghost use Rattle.std.proofs.Common.{ltb};
+ghost use Rattle.std.specs.Prelude.{◌≡◌, ◌+◌, ◌*◌, ◌≤◌, length, ltb};
 ghost use Rattle.basics.specs.Choice.{pick};
 ghost use Rattle.refusals.specs.Outcomes.{front};
 ghost use Rattle.table.specs.Rules.{servers_of, tasks_of};
 ghost use Rattle.entries.specs.Entries.{rows, listed, server_row, task_row, table_from};
 
-use std::array;
-
 use placing::put_row;
 use row::Row;
+use std::array;
 use table::Table;
 
 // So many entries of an array of rows, in an array of N places: rows beyond the count are not looked at.
@@ -24,10 +22,12 @@ fn entries_from<E: Row<W>, const W: usize, const N: usize>(rows: &[u32], n: usiz
     requires { length rows.now ≡ W * N }
     ensures { result ≡ listed (λ i. pick (ltb i n) (E.entry_in rows.now i) E.nothing) N 0 }
 {
-    array::from_fn(|i: usize| -> E
-        requires { W * i + W ≤ length rows.now }
-        ensures { result ≡ pick (ltb i n) (E.entry_in rows.entry.now i) E.nothing }
-    { if i < n { E::entry(rows, i) } else { E::none() } })
+    array::from_fn(
+        |i: usize| -> E
+            requires { W * i + W ≤ length rows.now }
+            ensures { result ≡ pick (ltb i n) (E.entry_in rows.entry.now i) E.nothing }
+        { if i < n { E::entry(rows, i) } else { E::none() } },
+    )
 }
 
 // The table of a span, two counts and two arrays of rows. A row whose kind is unknown makes an entry that breaks the rules.

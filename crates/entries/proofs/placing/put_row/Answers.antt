@@ -1,7 +1,4 @@
-use Rattle.std.proofs.Common.{arith, sym, ◌+◌, ◌∙◌, length}
-use Rattle.std.proofs.lemmas.List.{take-append-drop}
-use Rattle.std.proofs.lemmas.List.Edits.{sets-eq}
-use Rattle.std.proofs.lemmas.Slice.{take-put_mid, drop-put_mid}
+use Rattle.std.proofs.Common.{arith}
 use Rattle.entries.proofs.Rows.{placed}
 use Rattle.entries.proofs.placing.put_row.Goals as goal
 
