@@ -17,7 +17,7 @@ use Rattle.answers.specs.Answers.{server_answer, task_answer, no_server_answer, 
 use Rattle.answers.specs.Jobs.{ServerSays, TaskSays}
 use Rattle.answers.specs.declared.Analysis.{Analysis}
 use Rattle.answers.specs.declared.ServerAnswer.{ServerAnswer}
-use Rattle.answers.specs.declared.TaskAnswer.{TaskAnswer}
+use Rattle.answers.specs.declared.Response.{Response}
 use Rattle.answers.proofs.Entries.{entries_length, entry_is}
 use Rattle.answers.proofs.Saying.{server_says, task_says}
 use Rattle.answers.proofs.Within.{ResponseWithin, ServerWithin, Within, server_within, task_within}
@@ -64,7 +64,7 @@ module _ (table : Table) (ok : Obeyed table) where
   server_entry says i h p =
       subst says (sym (entry_is (server_answer table) no_server_answer table.servers_n 16 i (omega (arith, servers_most table ok)) h)) p
 
-  task_entry : (says : TaskAnswer → Type 0) (k : ℕ) → k < table.tasks_n → says (task_answer table k)
+  task_entry : (says : Response → Type 0) (k : ℕ) → k < table.tasks_n → says (task_answer table k)
       → says (get_or (analysed table).tasks k no_task_answer)
   task_entry says k h p =
       subst says (sym (entry_is (task_answer table) no_task_answer table.tasks_n 64 k (omega (arith, tasks_most table ok)) h)) p
@@ -88,7 +88,7 @@ answered_within table ok = record {
   place = omega arith;
   span = span_most table ok;
   of_server = λ i h. server_entry table ok ServerWithin i h (server_within table ok i h);
-  of_task = λ k h. task_entry table ok (λ a. ResponseWithin a.response) k h (task_within table ok k h);
+  of_task = λ k h. task_entry table ok ResponseWithin k h (task_within table ok k h);
 }
 
 pub analysis_within : (text : List ℕ) → Within (analysis_of text true)
@@ -106,7 +106,7 @@ analysed_says table ok = record {
   servers_count = refl;
   tasks_count = refl;
   of_server = λ i h. server_entry table ok (ServerSays table i) i h (server_says table ok i h);
-  of_task = λ k h. task_entry table ok (λ a. TaskSays table k a.response) k h (task_says table ok k h);
+  of_task = λ k h. task_entry table ok (TaskSays table k) k h (task_says table ok k h);
 }
 
 -- demand 3, its second half: for every accepted text, with room enough, the answers are those of the machine's run

@@ -31,7 +31,7 @@ module _ (text : List ℕ) (tick : ℕ) (room : Bool) (r : Worked) (w : Works te
       go (ready o) = told_ready o
       go (refused n e few a) =
           let none = w.empty (rw w.refusal n) in
-          rw (e, unmarked_first 64 r.table.servers_n r.notes.servers.holds none.1, unmarked_first 64 r.table.tasks_n r.notes.tasks.runs none.3, w.refusal)
+          rw (e, unmarked_first 16 r.table.servers_n r.notes.servers.holds none.1, unmarked_first 64 r.table.tasks_n r.notes.tasks.runs none.3, w.refusal)
 
   pub listed_is : tick ≡ 0 → listed_by r ≡ analysis_of text room
   listed_is z = go (way text tick room)
@@ -45,5 +45,5 @@ module _ (text : List ℕ) (tick : ℕ) (room : Bool) (r : Worked) (w : Works te
           rw ((a z).0, none.0, none.2, w.refusal, w.table, (a z).1)
 
   -- the table has no more entries than there are places
-  pub works_few : (r.table.servers_n ≤ 64) × (r.table.tasks_n ≤ 64)
+  pub works_few : (r.table.servers_n ≤ 16) × (r.table.tasks_n ≤ 64)
   works_few = let few = opened_few text tick room in rw w.table (omega (arith, few.0), omega (arith, few.1))

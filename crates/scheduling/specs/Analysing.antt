@@ -45,4 +45,4 @@ pub record Says (table : Table) (a : Analysis) : Type 0 where
   pub servers_count : a.servers_n ≡ table.servers_n
   pub tasks_count : a.tasks_n ≡ table.tasks_n
   pub of_server : (i : ℕ) → i < table.servers_n → ServerSays table i (get_or a.servers i no_server_answer)
-  pub of_task : (k : ℕ) → k < table.tasks_n → TaskSays table k (get_or a.tasks k no_task_answer).response
+  pub of_task : (k : ℕ) → k < table.tasks_n → TaskSays table k (get_or a.tasks k no_task_answer)

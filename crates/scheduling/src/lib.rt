@@ -78,18 +78,15 @@ fn work_out(
 
 // Who holds the tick and who runs in it: the first server and the first task that are marked.
 fn told(worked: Worked) -> Who
-    requires { (worked.table.servers_n ≤ 64) × (worked.table.tasks_n ≤ 64) }
+    requires { (worked.table.servers_n ≤ 16) × (worked.table.tasks_n ≤ 64) }
     ensures { result ≡ told_by worked }
 {
     let refusal = worked.refusal;
     let notes = worked.notes;
-    let servers = notes.servers;
-    let tasks = notes.tasks;
-    let holds = servers.holds;
-    let runs = tasks.runs;
-    let table = worked.table;
-    let holder = first_marked(holds, table.servers_n);
-    let runner = first_marked(runs, table.tasks_n);
+    let holds = &notes.servers.holds[..worked.table.servers_n];
+    let runs = &notes.tasks.runs[..worked.table.tasks_n];
+    let holder = first_marked(holds);
+    let runner = first_marked(runs);
     Who {
         refusal,
         holder,

@@ -79,16 +79,16 @@ returns-2 c =
     let o = opened (branch (noted (last c))) in
     let a = (start o).args in
     let z = (branch (noted (last c))).if-refusal-ne0.false in
-    let k = (noted (last c)).answer_all-notes.ensures in (
+    let k = (noted (last c)).answer_all-notes in (
       record {
         refusal = ap (λ (x : Opened). x.refusal) o.open_text-opened.ensures;
         table = ap (λ (x : Opened). x.table) o.open_text-opened.ensures;
-        noted = λ q. k.0;
+        noted = λ q. k.ensures;
         empty = λ q. absurd (omega (arith, z));
       },
       by_number (sym z)
           (all_cleared a.free.now a.sum.now a.part.now a.held.now a.running.now a.spare.now
-          (k.1, k.2, k.3, k.4, k.5, k.6) (last c).clear_all.ensures),
+          (k.auto.free, k.auto.sum, k.auto.part, k.auto.held, k.auto.running, k.auto.spare) (last c).clear_all.ensures),
     )
 
 pub work_out_spec : {M : Type 1} → statement M
