@@ -1,5 +1,5 @@
 -- What of a result has to be counted before it is written. Assumes nothing.
-use Rattle.std.proofs.Common.{◌≡◌, ℕ, List, true, ◌&&◌, length}
+use Rattle.std.proofs.Common.{◌≡◌, ℕ, List, true, length}
 use mathlib.Core.Bool.{and-true}
 use lib.Dec.{leb}
 use borrow.Author.Tests.{le-leb}

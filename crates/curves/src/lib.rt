@@ -6,7 +6,7 @@ ghost use Rattle.std.specs.Prelude.{◌≡◌};
 ghost use Rattle.windows.specs.Windows.{is_plain};
 ghost use Rattle.curves.specs.Calls.{Adds, Cuts, Fits, Provides};
 
-use fitting::Counts;
+use fitting::{Counts, Fitting};
 use refusals::{Ground, Refusal, required};
 use walks::LIMIT;
 use walks::adding::Sum;
@@ -66,11 +66,14 @@ pub fn fit(
 {
     required(plain(demand), Ground::NotPlain)?;
     required(plain(supply), Ground::NotPlain)?;
-    required(
-        fitting::fits(demand, supply, left.len(), served.len(), rest.len()),
-        Ground::NoRoom,
-    )?;
-    Ok(fitting::write(demand, supply, left, served, rest))
+    let fitting = Fitting::of(demand, supply);
+    let rooms = Counts {
+        left: left.len(),
+        served: served.len(),
+        rest: rest.len(),
+    };
+    required(fitting::fits(fitting, rooms), Ground::NoRoom)?;
+    Ok(fitting::write(fitting, left, served, rest))
 }
 
 // When a curve has given `amount` ticks, if it has so many.

@@ -3,35 +3,24 @@ use Prim.Native.Nat.{ℕ, zero, suc, ◌+◌, ◌*◌, ◌≤◌, ◌<◌}
 use mathlib.Core.Path.{◌≡◌, refl, sym, ap, ◌∙◌}
 use mathlib.Core.List.{List, [], ◌∷◌, ◌++◌, append_assoc, append-nil}
 use native.Mathlib.Numerals.{add-one}
-use native.Mathlib.Nat.{add-zero, mul-zero, mul-suc}
+use native.Mathlib.Nat.{mul-zero, mul-suc, mul-le-mul_left}
 use native.Mathlib.Omega.{arith}
-use lib.ListN.{length, get_or, take, set, length-set, length-append, length-drop, get_or-append}
-use lib.Seq.{sets, sets-eq, length-sets, take-suc, take_all, take-append_seam, drop-append-add, drop-drop, get_or-append-add, length-take-le}
+use lib.ListN.{length, get_or, take, drop, take-append-drop, length-append, length-drop, get_or-append}
+use borrow.Rule.Slice.PartMut.{put_mid}
+use Rattle.std.proofs.lemmas.Slice.{take-put_mid, drop-put_mid}
+use lib.Seq.{sets, sets-eq, length-sets, take-suc, take-append_seam, drop-append-add, drop-drop, get_or-append-add, length-take-le}
 use Rattle.refusals.specs.Outcomes.{front}
 use Rattle.entries.specs.Entries.{rows}
 
--- ---- a run of numbers, stored one by one
+-- ---- a run of numbers
 
--- one number more
-sets_next : (vs l : List ℕ) (i a : ℕ) → set (sets l i vs) (i + length vs) a ≡ sets l i (vs ++ (a ∷ []))
-sets_next [] l i a = rw add-zero
-sets_next (b ∷ vs) l i a = let e : i + suc (length vs) ≡ suc i + length vs = omega arith in rw e (sets_next vs (set l i b) (suc i) a)
-
--- the first i numbers of a row are stored from a place on
-pub record Stored (row : List ℕ) (at i : ℕ) (old out : List ℕ) : Type 0 where
-  pub long : length out ≡ length old
-  pub written : out ≡ sets old at (take i row)
-
-pub stored_next : (row : List ℕ) (at i : ℕ) (old out : List ℕ) → i < length row → Stored row at i old out
-    → Stored row at (i + 1) old (set out (at + i) (get_or row i 0))
-stored_next row at i old out h w =
-    let e : length (take i row) ≡ i = length-take-le i row (omega arith) in
-    let next : set (sets old at (take i row)) (at + i) (get_or row i 0) ≡ sets old at (take (i + 1) row) =
-    rw (add-one, take-suc row i 0 h) (rw e at (sets_next (take i row) old at (get_or row i 0))) in
-    record { long = length-set out (at + i) (get_or row i 0) ∙ w.long; written = rw w.written next }
-
-pub stored_all : (row : List ℕ) (at i : ℕ) (old out : List ℕ) → length row ≤ i → Stored row at i old out → out ≡ sets old at row
-stored_all row at i old out h w = w.written ∙ rw (take_all i row h)
+-- a copy to a part of a list
+pub placed : (row copied old : List ℕ) (at k : ℕ) → at + length row ≤ length old → copied ≡ row → k ≡ length row → put_mid at k old copied ≡ sets old at row
+placed row copied old at k h e w =
+    let n : ℕ = at + length row in
+    let front : take n (put_mid at k old row) ≡ take at old ++ row = take-put_mid at k old row n refl (omega arith) in
+    let back : drop n (put_mid at k old row) ≡ drop n old = drop-put_mid at k old row n (omega arith) (omega arith) (sym w) in
+    rw (e, ← take-append-drop n (put_mid at k old row), front, back) (sym (sets-eq row old at h))
 
 -- behind what stands at the front
 front_more : (x v old : List ℕ) (n : ℕ) → length x ≡ n → n + length v ≤ length old → sets (front x old) n v ≡ front (x ++ v) old
@@ -93,3 +82,10 @@ module _ {A : Type 0} (f : A → List ℕ) where
 
     pub rows_all : (l : List A) (i n : ℕ) (old out : List ℕ) → i ≤ n → n ≤ i → RowsTo l i old out → out ≡ front (rows f (take n l)) old
     rows_all l i n old out h k t = let all : i ≡ n = omega arith in rw all at t.written
+
+-- where all rows have room, each has
+pub row_fits : (w i n room : ℕ) → i < n → w * n ≤ room → w * i + w ≤ room
+row_fits w i n room h k =
+    let e : w * suc i ≡ w * i + w = mul-suc w i in
+    let m : w * suc i ≤ w * n = mul-le-mul_left w h in
+    omega arith

@@ -1,5 +1,5 @@
 -- Document 02, E1: a table's entries as rows of numbers, for callers in C, and back.
-use Rattle.std.specs.Prelude.{ℕ, zero, suc, ◌+◌, ◌*◌, List, [], ◌∷◌, ◌++◌, get_or, eqb, ltb}
+use Rattle.std.specs.Prelude.{ℕ, zero, suc, ◌+◌, ◌*◌, List, [], ◌∷◌, ◌++◌, get_or, eqb, ltb, Option, Some, None}
 use Rattle.basics.specs.Choice.{pick}
 use Rattle.table.specs.Rules.{no_server, no_task}
 use Rattle.table.specs.declared.Kind.{Kind}
@@ -36,6 +36,10 @@ abbrev pub release_period : Release → ℕ
 release_period (Once instant) = 0
 release_period (Every offset period) = period
 
+-- a release as three numbers
+abbrev pub release_row : Release → List ℕ
+release_row r = release_number r ∷ (release_first r ∷ (release_period r ∷ []))
+
 -- a task's row: server, work, kind of release, its two numbers, deadline
 abbrev pub task_row : Task → List ℕ
 task_row k =
@@ -47,6 +51,14 @@ rows f [] = []
 rows f (a ∷ l) = f a ++ rows f l
 
 -- ---- the same backwards: a kind that is none of the stated ones makes an entry that breaks the rules
+
+-- the kind of a number, if there is such a kind
+abbrev pub kind_from : ℕ → Option Kind
+kind_from number = pick (eqb number 1) (Some Deferrable) (pick (eqb number 2) (Some Periodic) None)
+
+-- the release of three numbers, if there is such a kind of release; the period of `once` is not looked at
+abbrev pub release_from : (kind first period : ℕ) → Option Release
+release_from kind first period = pick (eqb kind 1) (Some (Once first)) (pick (eqb kind 2) (Some (Every first period)) None)
 
 abbrev pub server_from : (kind capacity period : ℕ) → Server
 server_from kind capacity period =

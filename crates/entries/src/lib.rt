@@ -3,17 +3,32 @@
 
 mod giving;
 pub mod placing;
+mod row;
 mod taking;
 
-ghost use Rattle.std.specs.Prelude.{◌≡◌, ◌≤◌, length};
+ghost use Rattle.std.specs.Prelude.{◌≡◌, ◌+◌, ◌*◌, ◌≤◌, length, ltb};
+ghost use Rattle.basics.specs.Choice.{pick};
 ghost use Rattle.refusals.specs.Outcomes.{front};
 ghost use Rattle.table.specs.Rules.{servers_of, tasks_of};
-ghost use Rattle.entries.specs.Entries.{rows, server_row, task_row, table_from};
+ghost use Rattle.entries.specs.Entries.{rows, listed, server_row, task_row, table_from};
 
-use giving::{server_row, task_row};
 use placing::put_row;
+use row::Row;
+use std::array;
 use table::Table;
-use taking::{servers_from, tasks_from};
+
+// So many entries of an array of rows, in an array of N places: rows beyond the count are not looked at.
+fn entries_from<E: Row<W>, const W: usize, const N: usize>(rows: &[u32], n: usize) -> [E; N]
+    requires { length rows.now ≡ W * N }
+    ensures { result ≡ listed (λ i. pick (ltb i n) (E.entry_in rows.now i) E.nothing) N 0 }
+{
+    array::from_fn(
+        |i: usize| -> E
+            requires { W * i + W ≤ length rows.now }
+            ensures { result ≡ pick (ltb i n) (E.entry_in rows.entry.now i) E.nothing }
+        { if i < n { E::entry(rows, i) } else { E::none() } },
+    )
+}
 
 // The table of a span, two counts and two arrays of rows. A row whose kind is unknown makes an entry that breaks the rules.
 pub fn table_from(
@@ -26,14 +41,22 @@ pub fn table_from(
     requires { (length servers.now ≡ 48) × (length tasks.now ≡ 384) }
     ensures { result ≡ table_from span servers_n tasks_n servers.now tasks.now }
 {
-    let first = servers_from(servers, servers_n);
-    let second = tasks_from(tasks, tasks_n);
     Table {
         span,
         servers_n,
         tasks_n,
-        servers: first,
-        tasks: second,
+        servers: entries_from(servers, servers_n),
+        tasks: entries_from(tasks, tasks_n),
+    }
+}
+
+// Writes the rows of entries to the front of an array.
+fn hand<E: Row<W>, const W: usize>(entries: &[E], out: &mut [u32])
+    requires { W * length entries.now ≤ length out.old }
+    ensures { out.new ≡ front (rows E.row_of entries.now) out.old }
+{
+    for (i, entry) in entries.iter().enumerate() {
+        put_row(&entry.row(), out, W * i);
     }
 }
 
@@ -42,15 +65,7 @@ pub fn hand_servers(table: Table, out: &mut [u32])
     requires { (table.servers_n ≤ 16) × (48 ≤ length out.old) }
     ensures { out.new ≡ front (rows server_row (servers_of table)) out.old }
 {
-    let n = table.servers_n;
-    let mut i: usize = 0;
-    while i < n {
-        let server = table.servers[i];
-        let row = server_row(server);
-        let at = 3 * i;
-        put_row(&row, out, at);
-        i += 1;
-    }
+    hand(&table.servers[..table.servers_n], out);
 }
 
 // Writes the rows of a table's tasks to the front of an array.
@@ -58,13 +73,5 @@ pub fn hand_tasks(table: Table, out: &mut [u32])
     requires { (table.tasks_n ≤ 64) × (384 ≤ length out.old) }
     ensures { out.new ≡ front (rows task_row (tasks_of table)) out.old }
 {
-    let n = table.tasks_n;
-    let mut i: usize = 0;
-    while i < n {
-        let task = table.tasks[i];
-        let row = task_row(task);
-        let at = 6 * i;
-        put_row(&row, out, at);
-        i += 1;
-    }
+    hand(&table.tasks[..table.tasks_n], out);
 }

@@ -7,10 +7,5 @@ pub fn put_row(row: &[u32], out: &mut [u32], at: usize)
     requires { at + length row.now ≤ length out.old }
     ensures { out.new ≡ sets out.old at row.now }
 {
-    let mut i: usize = 0;
-    while i < row.len() {
-        let place = at + i;
-        out[place] = row[i];
-        i += 1;
-    }
+    out[at..at + row.len()].copy_from_slice(row);
 }

@@ -1,17 +1,16 @@
 -- The words of specs/ that the library has too. Assumes nothing.
-use Rattle.std.proofs.Common.{length, ltb, ◌≤◌, get_or, sym, Option, Some, None, unwrap_or, ◌≡◌, ℕ, Bool, true, false, ◌&&◌, cond, eqb, List, [], ◌∷◌, refl, ap, ◌∙◌, arith}
+use Rattle.std.proofs.Common.{get_or, Option, Some, None, unwrap_or, ◌≡◌, ℕ, Bool, true, false, ◌&&◌, cond, eqb, List, [], ◌∷◌, refl, ap, ◌∙◌, arith}
 use Rattle.std.specs.List.{list_all, slice_get, position_or_len, slice_split, onto_first}
 use Rattle.std.specs.Option.{option_map}
 use Rattle.std.specs.Cmp.Lexicographic.{pointwise}
 use Rattle.std.proofs.lemmas.Option.{unwrap_or-slice_get}
-use Rattle.std.proofs.lemmas.Bool.Decides.{nat_tests}
 use Rattle.std.proofs.lemmas.List.Recursion.{is_position_or_len}
 use Rattle.basics.specs.Choice.{pick}
 use Rattle.table.specs.Rules.{all}
 use Rattle.fields.specs.Fields.{in_first, split, same_bytes}
 use Rattle.fields.specs.Pieces.{first_length}
-use Rattle.fields.proofs.Splits.{first_within}
 
+-- `==` of two slices
 pub same_is : (l m : List ℕ) → pointwise eqb l m ≡ same_bytes l m
 unfolding same_bytes
 same_is [] [] = refl
@@ -28,31 +27,22 @@ pick_is : {A : Type 0} (t : Bool) (x y : A) → pick t x y ≡ cond t x y
 pick_is true x y = refl
 pick_is false x y = refl
 
+-- `position`
 pub first_is : (sep : ℕ) (l : List ℕ) → first_length sep l ≡ position_or_len (λ b. eqb b sep) l
 unfolding first_length
 first_is sep l = is_position_or_len (first_length sep) (λ b. eqb b sep) refl (λ b r. pick_is (eqb b sep) _ _ ∙ ap (cond (eqb b sep) 0) (omega arith)) l
-
--- the place that `position` gives, or the length
-found_or : (n m : ℕ) → n ≤ m → unwrap_or (cond (ltb n m) (Some n) None) m ≡ n
-found_or n m h = grind (arith, nat_tests)
-
-pub first_or_length : {o : Option ℕ} (sep : ℕ) (l : List ℕ) → (let n = position_or_len (λ b. eqb b sep) l in o ≡ cond (ltb n (length l)) (Some n) None)
-    → unwrap_or o (length l) ≡ first_length sep l
-first_or_length sep l e =
-    let n = position_or_len (λ b. eqb b sep) l in
-    let k : n ≤ length l = omega (arith, first_is sep l, first_within sep l) in
-    ap (λ x. unwrap_or x (length l)) e ∙ found_or n (length l) k ∙ sym (first_is sep l)
 
 in_first_is : (b : ℕ) (fs : List (List ℕ)) → onto_first b fs ≡ in_first b fs
 in_first_is b [] = refl
 in_first_is b (f ∷ fs) = refl
 
+-- `split`
 pub parts_are : (sep : ℕ) (l : List ℕ) → slice_split (λ b. eqb b sep) l ≡ split sep l
 unfolding split
 parts_are sep [] = refl
 parts_are sep (b ∷ r) = rw (parts_are sep r, in_first_is b (split sep r), pick_is (eqb b sep) ([] ∷ split sep r) (in_first b (split sep r)))
 
--- the element that `nth` gives, or another
+-- `nth`, or another where there is none
 pub nth_or : {A B : Type 0} (f : A → B) (o : Option A) (y : A) (xs : List B) (i : ℕ) → option_map f o ≡ slice_get xs i → f (unwrap_or o y) ≡ get_or xs i (f y)
 nth_or f None y xs i e = ap (λ x. unwrap_or x (f y)) e ∙ unwrap_or-slice_get xs i (f y)
 nth_or f (Some x) y xs i e = ap (λ x. unwrap_or x (f y)) e ∙ unwrap_or-slice_get xs i (f y)

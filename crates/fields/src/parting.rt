@@ -3,7 +3,7 @@ ghost use Rattle.std.specs.Prelude.{◌≡◌, [], ◌≤◌, ◌<◌, length, g
 ghost use Rattle.fields.specs.Fields.{split, same_bytes};
 ghost use Rattle.fields.specs.Pieces.{first_length};
 
-// Whether two slices hold the same bytes. `==` compares no slice with an array, such as `b"span"`.
+// Whether two slices hold the same bytes; `==` itself would want `b"span".as_slice()` on its right.
 #[tactic(auto, using(crate::proofs::Library::same_is))]
 pub fn same(a: &[u8], b: &[u8]) -> bool
     ensures { result ≡ same_bytes a.now b.now }

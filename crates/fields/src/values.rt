@@ -7,7 +7,7 @@ use crate::Word;
 use crate::parting::same;
 use refusals::Ground;
 
-// Which of the fixed words a field is.
+// Which of the fixed words a field is, if it is one. A `match` on the bytes leaves a goal open for each byte that may differ.
 pub fn word(field: &[u8]) -> Option<Word>
     ensures { result ≡ word_of field.now }
 {

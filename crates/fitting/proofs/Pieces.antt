@@ -1,107 +1,149 @@
 -- The pieces of a fitting, one at a time. Assumes nothing.
-use Prim.Native.Nat.{ℕ, ◌+◌, ◌≤◌, ◌<◌, max}
-use mathlib.Core.Path.{◌≡◌, refl, ◌∙◌}
+use Prim.Native.Nat.{ℕ, ◌≤◌, ◌<◌, max, min}
+use mathlib.Core.Path.{◌≡◌, refl}
 use mathlib.Core.List.{List, [], ◌∷◌}
-use mathlib.Core.Bool.{true}
 use native.Mathlib.Omega.{arith}
+use native.Mathlib.Decide.{dec_le}
 use lib.ListN.{length, get_or, drop}
-use Rattle.windows.specs.Windows.{is_plain, plain_from, leaving}
-use Rattle.windows.specs.Walks.{raise, served_first, rest_first}
+use Rattle.windows.specs.Windows.{plain_from, window, fit, leaving}
+use Rattle.windows.specs.Walks.{raise}
 use Rattle.windows.proofs.Ticks.{plain_apart, window_some, window_none}
 use Rattle.windows.proofs.Fitting.{fit_no_demand, fit_leaving}
 use Rattle.windows.proofs.Stretching.{fit_unwanted, fit_unserved, fit_side, raise_none}
-use Rattle.fitting.specs.Steps.{fit_ahead, InFit, Goes, Stretches}
-use Rattle.fitting.specs.declared.Place.{Place}
+use Rattle.walks.proofs.Fronts.{behind, behind_is}
+use Rattle.fitting.specs.Steps.{demand_ahead, fit_ahead, FitSound, Goes, Unsupplied, InSupply, Supplied, Stretches}
+use Rattle.fitting.specs.declared.Fitting.{Fitting}
+use Rattle.fitting.specs.declared.Piece.{Piece}
+use Rattle.fitting.specs.declared.Part.TheVariants.{Left, Served, Rest}
 use Rattle.fitting.specs.declared.Stretch.{Stretch}
-use Rattle.fitting.proofs.Stretches.{Ahead, ahead_at, ahead_none, ahead_raised, plain_raised}
+use Rattle.fitting.proofs.Stretches.{Ahead, ahead_window, ahead_none, ahead_some, plain_from_later}
 
--- a plain supply of fewer than two numbers is empty
-short_none : (s : List ℕ) (free : ℕ) → is_plain (raise free s) ≡ true → length s < 2 → s ≡ []
-short_none [] free p h = refl
-short_none (x ∷ s) free p h = absurd (omega (arith, (ahead_at (x ∷ s) 0 free p (omega arith)).pair))
+pub ruleset starts = (raise_none)
 
-pub supply_none : {d s : List ℕ} {w : Place} → InFit d s w → length s < 2 → s ≡ []
-supply_none {d} {s} {w} p h = short_none s w.free p.supply h
+-- ---- the supply from an instant of its first window on
 
-module _ {d s : List ℕ} {w : Place} (p : InFit d s w) where
-  -- nothing is wanted, nothing offered
-  pub piece_done : length d ≤ w.at → s ≡ [] → fit_ahead d s w ≡ record { left = []; served = []; rest = [] }
-  unfolding raise
-  piece_done h e = rw (e, ahead_none d w.at w.wanted h) (fit_no_demand [])
+module _ {w : Fitting} {till : ℕ} (p : InSupply w till) where
+  window_offered : Ahead w.supply.now w.free
+  window_offered = ahead_window w.supply.now w.free p.plain p.some
 
-  -- nothing is wanted
-  pub piece_unwanted : length d ≤ w.at → Ahead s 0 w.free
-      → Goes d s w (leaving (max (get_or s 0 0) w.free) (get_or s 1 0)) 2 (record { at = w.at; wanted = w.wanted; free = 0 })
-  piece_unwanted h a =
-      record {
-        is = rw (a.is, raise_none (drop 2 s), ahead_none d w.at w.wanted h) (fit_unwanted _ _ (drop 2 s));
-        within = omega (arith, a.pair);
-        small = omega arith;
-        plain = record { demand = p.demand; supply = rw (raise_none (drop 2 s)) a.later };
-      }
-
-  module _ (b : Ahead d w.at w.wanted) where
-    -- nothing is offered
-    pub piece_rest : s ≡ []
-        → Goes d s w (rest_first (max (get_or d w.at 0) w.wanted) (get_or d (w.at + 1) 0)) 0 (record { at = w.at + 2; wanted = 0; free = 0 })
-    unfolding raise plain_from
-    piece_rest e =
+  module _ {v : Fitting} (ed : v.demand.now ≡ w.demand.now) (ew : v.wanted ≡ w.wanted) where
+    -- some of the window is left
+    pub supplied_part : till < get_or w.supply.now 1 0 → v.supply.now ≡ w.supply.now → v.free ≡ till → Supplied w till v
+    supplied_part h es ef =
+        let a = window_offered in
         record {
-          is = rw (e, b.is, raise_none (drop (w.at + 2) d)) (fit_unserved 0 _ _ (drop (w.at + 2) d) (plain_apart 0 (drop (w.at + 2) d) b.later));
-          within = omega arith;
-          small = omega arith;
-          plain = record { demand = rw (raise_none (drop (w.at + 2) d)) b.later; supply = rw (raise_none s, e) refl };
+          demand = ed;
+          wanted = ew;
+          supply = rw (es, ef, a.from till p.after, window_some till (get_or w.supply.now 1 0) (drop 2 w.supply.now) h, behind_is w.supply.now);
+          plain = rw (es, ef) (plain_from_later w.supply.now w.free till a p.after h);
         }
 
-    module _ (a : Ahead s 0 w.free) where
-      -- the supply window ends before the demand starts
-      pub piece_leaves : get_or s 1 0 ≤ max (get_or d w.at 0) w.wanted
-          → Goes d s w (leaving (max (get_or s 0 0) w.free) (get_or s 1 0)) 2 (record { at = w.at; wanted = w.wanted; free = 0 })
-      piece_leaves h =
-          record {
-            is = rw (a.is, b.is, raise_none (drop 2 s)) (fit_leaving _ _ _ _ (drop (w.at + 2) d) (drop 2 s) h);
-            within = omega (arith, a.pair);
-            small = omega arith;
-            plain = record { demand = p.demand; supply = rw (raise_none (drop 2 s)) a.later };
-          }
+    -- none is
+    pub supplied_whole : get_or w.supply.now 1 0 ≤ till → v.supply.now ≡ behind w.supply.now → v.free ≡ 0 → Supplied w till v
+    supplied_whole h es ef =
+        let a = window_offered in
+        record {
+          demand = ed;
+          wanted = ew;
+          supply = rw (es, ef, raise_none (behind w.supply.now), window_none till (get_or w.supply.now 1 0) (drop 2 w.supply.now) h) (behind_is w.supply.now);
+          plain = rw (es, ef, raise_none (behind w.supply.now)) a.later;
+        }
 
-      side_left : max (get_or d w.at 0) w.wanted < get_or s 1 0 → max (get_or s 0 0) w.free < max (get_or d w.at 0) w.wanted
-          → Goes d s w (leaving (max (get_or s 0 0) w.free) (max (get_or d w.at 0) w.wanted)) 0
-          (record { at = w.at; wanted = w.wanted; free = max (get_or d w.at 0) w.wanted })
-      side_left h k =
-          let q = max (get_or d w.at 0) w.wanted in
-          record {
-            is = rw (a.is, b.is, ahead_raised s 0 w.free q a (omega arith)) (fit_side q _ _ _ (drop (w.at + 2) d) (drop 2 s) k h);
-            within = omega arith;
-            small = omega arith;
-            plain = record { demand = p.demand; supply = plain_raised s 0 w.free q a (omega arith) h };
-          }
+-- ---- no supply is left
 
-      -- the supply starts before the demand, at q
-      pub piece_side : {q start : ℕ} → q ≡ max (get_or d w.at 0) w.wanted → start ≡ max (get_or s 0 0) w.free → q < get_or s 1 0 → start < q
-          → Goes d s w (leaving start q) 0 (record { at = w.at; wanted = w.wanted; free = q })
-      piece_side e f h k = rw (e, f) (side_left (rw e at h) (rw (e, f) at k))
+pub unsupplied : {w : Fitting} → FitSound w → length w.supply.now < 2 → Unsupplied w
+unsupplied {w} p h = record { demand = p.demand; none = ahead_none w.supply.now w.free p.supply h }
 
-      -- demand is served, and supply is left behind it
-      pub piece_served : {r : Stretch} → Stretches d w (max (get_or s 0 0) w.free) (get_or s 1 0) r → r.till < get_or s 1 0
-          → Goes d s w (served_first (max (get_or s 0 0) w.free) r.till) 0 (record { at = r.at; wanted = r.wanted; free = r.till })
-      piece_served {r} t h =
-          let m = t.rises in
-          record {
-            is = rw (a.is, ahead_raised s 0 w.free r.till a (omega arith), ← window_some r.till (get_or s 1 0) (drop 2 s) h) (t.is (drop 2 s) a.front.rest);
-            within = omega arith;
-            small = omega arith;
-            plain = record { demand = t.plain; supply = plain_raised s 0 w.free r.till a (omega arith) h };
-          }
+module _ {w : Fitting} (p : Unsupplied w) where
+  pub piece_none : length w.demand.now < 2 → fit_ahead w ≡ record { left = []; served = []; rest = [] }
+  unfolding raise
+  piece_none h = rw (p.none, ahead_none w.demand.now w.wanted p.demand h) (fit_no_demand [])
 
-      -- demand is served to the end of the supply window
-      pub piece_used : {r : Stretch} → Stretches d w (max (get_or s 0 0) w.free) (get_or s 1 0) r → get_or s 1 0 ≤ r.till
-          → Goes d s w (served_first (max (get_or s 0 0) w.free) (get_or s 1 0)) 2 (record { at = r.at; wanted = r.wanted; free = 0 })
-      piece_used {r} t h =
-          let m : r.till ≡ get_or s 1 0 = omega (arith, t.within) in
+  pub piece_rest : {s : Piece} → 2 ≤ length w.demand.now → s.part ≡ Rest → s.start ≡ max (get_or w.demand.now 0 0) w.wanted → s.end ≡ get_or w.demand.now 1 0
+      → s.behind.demand.now ≡ behind w.demand.now → s.behind.wanted ≡ 0 → s.behind.supply.now ≡ w.supply.now → Goes w s
+  unfolding raise plain_from
+  piece_rest {s} h ep es ee bd bw bs =
+      let a = ahead_window w.demand.now w.wanted p.demand h in
+      let d = behind w.demand.now in
+      record {
+        is = rw (ep, es, ee, bd, bw, bs, p.none, a.is, raise_none d) (fit_unserved 0 _ _ d (plain_apart 0 d a.later));
+        sound = record { demand = rw (bd, bw, raise_none d) a.later; supply = rw (bs, p.none) refl };
+      }
+
+-- ---- the first supply window
+
+module _ {w : Fitting} (p : FitSound w) (h : 2 ≤ length w.supply.now) where
+  offered : Ahead w.supply.now w.free
+  offered = ahead_window w.supply.now w.free p.supply h
+
+  pub supply_rises : max (get_or w.supply.now 0 0) w.free < get_or w.supply.now 1 0
+  supply_rises = offered.front.rises
+
+  pub supply_bounded : get_or w.supply.now 1 0 ≤ 1000000
+  supply_bounded = offered.front.bounded
+
+  module _ {start till : ℕ} {v : Fitting} (at_start : start ≡ max (get_or w.supply.now 0 0) w.free) (u : Supplied w till v) where
+    same_demand : demand_ahead v ≡ demand_ahead w
+    same_demand = rw (u.demand, u.wanted)
+
+    sound_behind : FitSound v
+    sound_behind = record { demand = rw same_demand p.demand; supply = u.plain }
+
+    -- nothing is wanted
+    pub piece_unwanted : length w.demand.now < 1 → till ≡ get_or w.supply.now 1 0 → Goes w (record { part = Left; start = start; end = till; behind = v })
+    unfolding raise
+    piece_unwanted i e =
+        let a = offered in
+        let s = drop 2 w.supply.now in
+        let end = get_or w.supply.now 1 0 in
+        record {
+          is = rw (u.supply, a.is, same_demand, ahead_none w.demand.now w.wanted p.demand (omega arith), e, at_start, behind_is w.supply.now, window_none end end s (omega arith)) (fit_unwanted _ _ s);
+          sound = sound_behind;
+        }
+
+    module _ (wanted : 0 < length w.demand.now) where
+      asked : Ahead w.demand.now w.wanted
+      asked = ahead_window w.demand.now w.wanted p.demand (ahead_some w.demand.now w.wanted p.demand wanted)
+
+      -- the supply window starts before the demand
+      pub piece_before : {q : ℕ} → q ≡ max (get_or w.demand.now 0 0) w.wanted → start < q → till ≡ min (get_or w.supply.now 1 0) q
+          → Goes w (record { part = Left; start = start; end = till; behind = v })
+      piece_before {q} eq k e =
           record {
-            is = rw (a.is, raise_none (drop 2 s)) (t.is (drop 2 s) a.front.rest ∙ rw (m, window_none (get_or s 1 0) (get_or s 1 0) (drop 2 s) (omega arith)));
-            within = omega (arith, a.pair);
-            small = omega arith;
-            plain = record { demand = t.plain; supply = rw (raise_none (drop 2 s)) a.later };
+            is = rw (u.supply, a.is, same_demand, asked.is, behind_is w.supply.now, ← at_start, ← eq) (go (dec_le end q));
+            sound = sound_behind;
           }
+        where
+          a : Ahead w.supply.now w.free
+          a = offered
+
+          end : ℕ
+          end = get_or w.supply.now 1 0
+
+          d : List ℕ
+          d = behind w.demand.now
+
+          s : List ℕ
+          s = drop 2 w.supply.now
+
+          go : Dec (end ≤ q)
+              → fit (q ∷ (get_or w.demand.now 1 0 ∷ d)) (start ∷ (end ∷ s)) ≡ leaving start till (fit (q ∷ (get_or w.demand.now 1 0 ∷ d)) (window till end s))
+          go (yes i) =
+              let t : till ≡ end = omega arith in
+              rw (t, window_none end end s (omega arith)) (fit_leaving _ _ _ _ d s i)
+          go (no i) =
+              let t : till ≡ q = omega arith in
+              rw (t, window_some q end s (omega arith)) (fit_side q _ _ _ d s k (omega arith))
+
+    -- demand is served
+    pub piece_served : {r : Stretch} → (o : Fitting) → Stretches w start (get_or w.supply.now 1 0) r → r.till ≡ till
+        → o.demand.now ≡ r.demand.now → o.wanted ≡ r.wanted → o.supply.now ≡ v.supply.now → o.free ≡ v.free
+        → Goes w (record { part = Served; start = start; end = till; behind = o })
+    piece_served {r} o t e od ow os of =
+        let a = offered in
+        record {
+          is = rw (od, ow, os, of, u.supply, ← e, a.is, ← at_start, behind_is w.supply.now) (t.is (drop 2 w.supply.now) (rw (behind_is w.supply.now) at a.front.rest));
+          sound = record { demand = rw (od, ow) t.plain; supply = rw (os, of) u.plain };
+        }
+
+pub ruleset pieces = (unsupplied, supply_rises, supply_bounded, piece_unwanted, piece_before, piece_served)

@@ -5,167 +5,178 @@ use mathlib.Core.List.{List, [], ◌∷◌}
 use mathlib.Core.Bool.{true}
 use native.Mathlib.Numerals.{add-one}
 use native.Mathlib.Omega.{arith}
-use native.Mathlib.Decide.{dec_le, dec_lt}
-use lib.ListN.{length, get_or, drop, drop_of_length-le}
+use native.Mathlib.Decide.{dec_lt}
+use lib.ListN.{length, get_or}
 use Rattle.windows.specs.Windows.{is_plain, plain_from, window, fit}
 use Rattle.windows.specs.Walks.{raise, open_first}
 use Rattle.windows.proofs.Ticks.{Apart, Front, plain_front, plain_lower, plain_apart, front_plain, not_odd, window_some, window_none}
 use Rattle.windows.proofs.Stretching.{open_none, stretch_whole, stretch_over, stretch_none, stretch_stop, later_demand, later_supply, raise_none}
-use Rattle.fitting.specs.Steps.{InStretch, Stretches}
-use Rattle.fitting.specs.declared.Place.{Place}
-use Rattle.windows.proofs.Turns.{drop_pair, drop_odd}
+use Rattle.walks.proofs.Fronts.{behind, behind_is}
+use Rattle.fitting.specs.Steps.{demand_ahead, demand_behind, InStretch, Stretches}
+use Rattle.fitting.specs.declared.Fitting.{Fitting}
+use Rattle.fitting.specs.declared.Stretch.{Stretch}
 
 pub apart_behind : (e : ℕ) (l : List ℕ) → plain_from (e + 1) l ≡ true → Apart (suc e) l
 apart_behind e l h = rw add-one at (plain_apart (e + 1) l h)
 
--- ---- the first window of what is left at a place, wanted from w on
+-- ---- the first window of what is left, wanted from w on
 
-pub record Ahead (l : List ℕ) (i w : ℕ) : Type 0 where
-  pub pair : 2 ≤ length l - i
-  pub is : raise w (drop i l) ≡ max (get_or l i 0) w ∷ (get_or l (i + 1) 0 ∷ drop (i + 2) l)
-  pub front : Front 0 (max (get_or l i 0) w) (get_or l (i + 1) 0) (drop (i + 2) l)
-  pub later : is_plain (drop (i + 2) l) ≡ true
+pub record Ahead (l : List ℕ) (w : ℕ) : Type 0 where
+  pub is : raise w l ≡ max (get_or l 0 0) w ∷ (get_or l 1 0 ∷ behind l)
+  pub front : Front 0 (max (get_or l 0 0) w) (get_or l 1 0) (behind l)
+  pub later : is_plain (behind l) ≡ true
+  pub from : (v : ℕ) → max (get_or l 0 0) w ≤ v → raise v l ≡ v ∷ (get_or l 1 0 ∷ behind l)
 
-pub ahead_at : (l : List ℕ) (i w : ℕ) → is_plain (raise w (drop i l)) ≡ true → i < length l → Ahead l i w
+pub ahead_window : (l : List ℕ) (w : ℕ) → is_plain (raise w l) ≡ true → 2 ≤ length l → Ahead l w
 unfolding raise
-ahead_at l i w h k = go (dec_le 2 (length l - i))
-  where
-    go : Dec (2 ≤ length l - i) → Ahead l i w
-    go (yes p) =
-        let f = plain_front 0 _ _ _ (rw (drop_pair l i p) at h) in
-        record { pair = p; is = rw (drop_pair l i p); front = f; later = plain_lower (get_or l (i + 1) 0 + 1) 0 (drop (i + 2) l) (omega arith) f.rest }
-    go (no p) = absurd (not_odd 0 (get_or l i 0) (rw (drop_odd l i k (omega arith)) at h))
+ahead_window [] w h k = absurd (omega arith)
+ahead_window (s ∷ []) w h k = absurd (omega arith)
+ahead_window (s ∷ (e ∷ r)) w h k =
+    let f = plain_front 0 _ _ _ h in
+    let b : behind (s ∷ (e ∷ r)) ≡ r = behind_is (s ∷ (e ∷ r)) in
+    record {
+      is = rw b;
+      front = rw b f;
+      later = rw b (plain_lower (e + 1) 0 r (omega arith) f.rest);
+      from = λ v i. let m : max s v ≡ v = omega arith in rw (m, b);
+    }
 
-pub ahead_none : (l : List ℕ) (i w : ℕ) → length l ≤ i → raise w (drop i l) ≡ []
+pub ahead_none : (l : List ℕ) (w : ℕ) → is_plain (raise w l) ≡ true → length l < 2 → l ≡ []
 unfolding raise
-ahead_none l i w h = rw (drop_of_length-le l h)
+ahead_none [] w h k = refl
+ahead_none (s ∷ []) w h k = absurd (not_odd 0 s h)
+ahead_none (s ∷ (e ∷ r)) w h k = absurd (omega arith)
+
+-- a curve that is not empty has a window
+pub ahead_some : (l : List ℕ) (w : ℕ) → is_plain (raise w l) ≡ true → 0 < length l → 2 ≤ length l
+unfolding raise
+ahead_some [] w h k = absurd (omega arith)
+ahead_some (s ∷ []) w h k = absurd (not_odd 0 s h)
+ahead_some (s ∷ (e ∷ r)) w h k = omega arith
 
 -- wanted from a later instant of the window on
-pub ahead_raised : (l : List ℕ) (i w v : ℕ) → Ahead l i w → max (get_or l i 0) w ≤ v → raise v (drop i l) ≡ v ∷ (get_or l (i + 1) 0 ∷ drop (i + 2) l)
-unfolding raise
-ahead_raised l i w v a h =
-    let m : max (get_or l i 0) v ≡ v = omega arith in
-    rw (drop_pair l i a.pair, m)
+pub plain_from_later : (l : List ℕ) (w v : ℕ) → Ahead l w → max (get_or l 0 0) w ≤ v → v < get_or l 1 0 → is_plain (raise v l) ≡ true
+plain_from_later l w v a h k =
+    rw (a.from v h)
+    (front_plain 0 v (get_or l 1 0) (behind l) (record { after = omega arith; rises = k; bounded = a.front.bounded; rest = a.front.rest }))
 
-pub plain_raised : (l : List ℕ) (i w v : ℕ) → Ahead l i w → max (get_or l i 0) w ≤ v → v < get_or l (i + 1) 0 → is_plain (raise v (drop i l)) ≡ true
-plain_raised l i w v a h k =
-    rw (ahead_raised l i w v a h)
-    (front_plain 0 v (get_or l (i + 1) 0) (drop (i + 2) l) (record { after = omega arith; rises = k; bounded = a.front.bounded; rest = a.front.rest }))
+-- ---- the loop: up to `till` all is served in one stretch, and the demand of `o` is still to come
 
--- ---- the loop: up to `till` all is served in one stretch, and d from `at` on, wanted from `wanted` on, is still to come
-
-pub record Stretching (d : List ℕ) (at₀ wanted₀ from end at wanted till : ℕ) : Type 0 where
-  pub some : at₀ < length d
-  pub starts : max (get_or d at₀ 0) wanted₀ ≤ from
-  pub below : from < end
-  pub low : from ≤ till
-  pub high : till ≤ end
-  pub bounded : end ≤ 1000000
-  pub plain : is_plain (raise wanted (drop at d)) ≡ true
-  pub first : till ≡ from → (at ≡ at₀) × (wanted ≡ wanted₀)
+pub record Stretching (w : Fitting) (from end : ℕ) (o : Stretch) : Type 0 where
+  pub given : InStretch w from end
+  pub low : from ≤ o.till
+  pub high : o.till ≤ end
+  pub plain : is_plain (demand_behind o) ≡ true
+  pub first : o.till ≡ from → (o.demand.now ≡ w.demand.now) × (o.wanted ≡ w.wanted)
   pub is : (s : List ℕ) → plain_from (end + 1) s ≡ true
-      → fit (raise wanted₀ (drop at₀ d)) (from ∷ (end ∷ s)) ≡ open_first from till (fit (raise wanted (drop at d)) (window till end s))
+      → fit (demand_ahead w) (from ∷ (end ∷ s)) ≡ open_first from o.till (fit (demand_behind o) (window o.till end s))
 
-pub stretching_first : {d : List ℕ} {w : Place} {from end : ℕ} → InStretch d w from end → Stretching d w.at w.wanted from end w.at w.wanted from
-stretching_first {d} {w} {from} {end} p = record {
-  some = p.some;
-  starts = p.starts;
-  below = p.below;
-  low = omega arith;
-  high = omega (arith, p.below);
-  bounded = p.bounded;
-  plain = p.plain;
-  first = λ e. (refl, refl);
-  is = λ s h. rw (window_some from end s p.below, open_none from (fit (raise w.wanted (drop w.at d)) (from ∷ (end ∷ s))));
-}
-
--- the next demand window is served whole
-pub stretching_whole : {d : List ℕ} {at₀ wanted₀ from end at wanted till : ℕ} → Stretching d at₀ wanted₀ from end at wanted till → Ahead d at wanted
-    → max (get_or d at 0) wanted ≤ till → get_or d (at + 1) 0 - max (get_or d at 0) wanted ≤ end - till
-    → Stretching d at₀ wanted₀ from end (at + 2) 0 (till + (get_or d (at + 1) 0 - max (get_or d at 0) wanted))
-stretching_whole {d} {from = from} {end} {at} {wanted} {till} p a h k =
-    let q = max (get_or d at 0) wanted in
-    let e = get_or d (at + 1) 0 in
-    let z = a.front.rises in
+pub stretching_first : {w : Fitting} {from end : ℕ} {o : Stretch} → InStretch w from end → o.demand.now ≡ w.demand.now → o.wanted ≡ w.wanted → o.till ≡ from
+    → Stretching w from end o
+stretching_first {w} {from} {end} {o} p ed ew et =
+    let z = p.below in
     record {
-      some = p.some;
-      starts = p.starts;
-      below = p.below;
-      low = omega (arith, p.low);
-      high = omega (arith, p.high);
-      bounded = p.bounded;
-      plain = rw (raise_none (drop (at + 2) d)) a.later;
-      first = λ x. absurd (omega (arith, p.low));
-      is = λ s i. p.is s i
-          ∙ ap (λ (l : List ℕ). open_first from till (fit l (window till end s))) a.is
-          ∙ stretch_whole from till end q e (drop (at + 2) d) s p.low h (omega arith) z k
-          ∙ ap (λ (l : List ℕ). open_first from (till + (e - q)) (fit l (window (till + (e - q)) end s))) (sym (raise_none (drop (at + 2) d)));
+      given = p;
+      low = omega (arith, et);
+      high = omega (arith, et);
+      plain = rw (ed, ew) p.plain;
+      first = λ e. (ed, ew);
+      is = λ s h. rw (ed, ew, et, window_some from end s p.below, open_none from (fit (demand_ahead w) (from ∷ (end ∷ s))));
     }
 
--- something was served, if no demand is left or it starts later
-served_some : {d : List ℕ} {at₀ wanted₀ from end at wanted till : ℕ} → Stretching d at₀ wanted₀ from end at wanted till
-    → (at ≡ at₀ → wanted ≡ wanted₀ → till ≡ from → ⊥) → from < till
-served_some {from = from} {till = till} p no-first = go (dec_lt from till)
-  where
-    go : Dec (from < till) → from < till
-    go (yes h) = h
-    go (no h) =
-        let e : till ≡ from = omega (arith, p.low) in
-        absurd (no-first (p.first e).0 (p.first e).1 e)
+-- what is left of the demand of a stretch, at its first window
+module _ {w : Fitting} {from end : ℕ} {o : Stretch} (p : Stretching w from end o) where
+  abbrev starts : ℕ
+  starts = max (get_or o.demand.now 0 0) o.wanted
 
--- no demand is left, or it starts later
-stretching_stop : {d : List ℕ} {w : Place} {from end at wanted till : ℕ} → Stretching d w.at w.wanted from end at wanted till → from < till
-    → Apart (suc till) (raise wanted (drop at d)) → Stretches d w from end (record { at = at; wanted = wanted; till = till })
-stretching_stop {d} {w} {from} {end} {at} {wanted} {till} p h a = record {
-  rises = h;
-  within = p.high;
-  plain = p.plain;
-  is = λ s i. p.is s i ∙ stretch_stop from till _ h (later_demand till end (raise wanted (drop at d)) s a (apart_behind end s i));
-}
+  abbrev ends : ℕ
+  ends = get_or o.demand.now 1 0
 
-pub stretching_end : {d : List ℕ} {w : Place} {from end at wanted till : ℕ} → Stretching d w.at w.wanted from end at wanted till → length d ≤ at
-    → Stretches d w from end (record { at = at; wanted = wanted; till = till })
-stretching_end {d} {w} {at = at} {wanted} {till} p h =
-    stretching_stop p (served_some p (λ e f g. omega (arith, p.some))) (rw (ahead_none d at wanted h) tt)
+  -- a stretch ends where no demand is left, or it starts later: something was served before
+  stretching_stop : from < o.till → Apart (suc o.till) (demand_behind o) → Stretches w from end o
+  stretching_stop h a = record {
+    rises = h;
+    within = p.high;
+    plain = p.plain;
+    is = λ s i. p.is s i ∙ stretch_stop from o.till _ h (later_demand o.till end (demand_behind o) s a (apart_behind end s i));
+  }
 
-pub stretching_gap : {d : List ℕ} {w : Place} {from end at wanted till : ℕ} → Stretching d w.at w.wanted from end at wanted till → Ahead d at wanted
-    → till < max (get_or d at 0) wanted → Stretches d w from end (record { at = at; wanted = wanted; till = till })
-stretching_gap {d} {w} {from} {end} {at} {wanted} {till} p a h =
-    stretching_stop p (served_some p (λ e f g. none e f g))
-    (rw a.is (h, a.front.rises, apart_behind (get_or d (at + 1) 0) (drop (at + 2) d) a.front.rest))
-  where
-    none : at ≡ w.at → wanted ≡ w.wanted → till ≡ from → ⊥
-    none e f g =
-        let s : max (get_or d at 0) wanted ≤ from = rw (e, f) p.starts in
-        omega arith
+  served_some : (o.demand.now ≡ w.demand.now → o.wanted ≡ w.wanted → o.till ≡ from → ⊥) → from < o.till
+  served_some no-first = go (dec_lt from o.till)
+    where
+      go : Dec (from < o.till) → from < o.till
+      go (yes h) = h
+      go (no h) =
+          let e : o.till ≡ from = omega (arith, p.low) in
+          absurd (no-first (p.first e).0 (p.first e).1 e)
 
--- the supply window is used up
-pub stretching_over : {d : List ℕ} {w : Place} {from end at wanted till : ℕ} → Stretching d w.at w.wanted from end at wanted till → Ahead d at wanted
-    → max (get_or d at 0) wanted ≤ till → end - till < get_or d (at + 1) 0 - max (get_or d at 0) wanted
-    → Stretches d w from end (record { at = at; wanted = max (get_or d at 0) wanted + (end - till); till = end })
-stretching_over {d} {w} {from} {end} {at} {wanted} {till} p a h k =
-    record {
-      rises = p.below;
-      within = omega arith;
-      plain = plain_raised d at wanted (q + (end - till)) a (omega arith) (omega arith);
-      is = λ s i.
-          p.is s i
-          ∙ ap (λ (l : List ℕ). open_first from till (fit l (window till end s))) a.is
-          ∙ used s (dec_lt till end)
-          ∙ stretch_stop from end (fit ((q + (end - till)) ∷ (e ∷ drop (at + 2) d)) s) p.below
-          (later_supply end ((q + (end - till)) ∷ (e ∷ drop (at + 2) d)) s (omega arith, omega arith, apart_behind e (drop (at + 2) d) a.front.rest) (apart_behind end s i))
-          ∙ rw (ahead_raised d at wanted (q + (end - till)) a (omega arith), window_none end end s (omega arith));
-    }
-  where
-    q : ℕ
-    q = max (get_or d at 0) wanted
+  pub stretching_end : length o.demand.now < 2 → Stretches w from end o
+  unfolding raise
+  stretching_end h =
+      let none = ahead_none o.demand.now o.wanted p.plain h in
+      stretching_stop (served_some (λ e f g. let z = ap length (sym e ∙ none) in omega (arith, p.given.some, z))) (rw none tt)
 
-    e : ℕ
-    e = get_or d (at + 1) 0
+  module _ (h : 2 ≤ length o.demand.now) where
+    window_ahead : Ahead o.demand.now o.wanted
+    window_ahead = ahead_window o.demand.now o.wanted p.plain h
 
-    used : (s : List ℕ) → Dec (till < end)
-        → open_first from till (fit (q ∷ (e ∷ drop (at + 2) d)) (window till end s)) ≡ open_first from end (fit ((q + (end - till)) ∷ (e ∷ drop (at + 2) d)) s)
-    used s (yes l) = stretch_over from till end q e (drop (at + 2) d) s p.low h l a.front.rises k
-    used s (no l) =
-        let x : till ≡ end = omega (arith, p.high) in
-        rw x (ap (open_first from end) (stretch_none end q e (drop (at + 2) d) s))
+    pub stretching_rises : starts < ends
+    stretching_rises = window_ahead.front.rises
+
+    pub stretching_gap : o.till < starts → Stretches w from end o
+    stretching_gap k =
+        let a = window_ahead in
+        stretching_stop (served_some none) (rw a.is (k, a.front.rises, apart_behind ends (behind o.demand.now) a.front.rest))
+      where
+        none : o.demand.now ≡ w.demand.now → o.wanted ≡ w.wanted → o.till ≡ from → ⊥
+        none e f g =
+            let s : starts ≤ from = rw (e, f) p.given.starts in
+            omega arith
+
+    -- the next demand window is served whole
+    pub stretching_whole : {v : Stretch} → starts ≤ o.till → ends - starts ≤ end - o.till
+        → v.demand.now ≡ behind o.demand.now → v.wanted ≡ 0 → v.till ≡ o.till + (ends - starts) → Stretching w from end v
+    stretching_whole {v} i k ed ew et =
+        let a = window_ahead in
+        let z = a.front.rises in
+        record {
+          given = p.given;
+          low = omega (arith, p.low, et);
+          high = omega (arith, p.high, et);
+          plain = rw (ed, ew, raise_none (behind o.demand.now)) a.later;
+          first = λ x. absurd (omega (arith, p.low, et));
+          is = λ s j.
+              rw (ed, ew, et, raise_none (behind o.demand.now))
+              (p.is s j
+              ∙ ap (λ (l : List ℕ). open_first from o.till (fit l (window o.till end s))) a.is
+              ∙ stretch_whole from o.till end starts ends (behind o.demand.now) s p.low i (omega arith) z k);
+        }
+
+    -- the supply window is used up
+    pub stretching_over : {v : Stretch} → starts ≤ o.till → end - o.till < ends - starts
+        → v.demand.now ≡ o.demand.now → v.wanted ≡ starts + (end - o.till) → v.till ≡ end → Stretches w from end v
+    stretching_over {v} i k ed ew et =
+        let a = window_ahead in
+        record {
+          rises = omega (arith, p.given.below, et);
+          within = omega (arith, et);
+          plain = rw (ed, ew) (plain_from_later o.demand.now o.wanted later a (omega arith) (omega arith));
+          is = λ s j.
+              rw (ed, ew, et)
+              (p.is s j
+              ∙ ap (λ (l : List ℕ). open_first from o.till (fit l (window o.till end s))) a.is
+              ∙ used s (dec_lt o.till end)
+              ∙ stretch_stop from end (fit (later ∷ (ends ∷ behind o.demand.now)) s) p.given.below
+              (later_supply end (later ∷ (ends ∷ behind o.demand.now)) s (omega arith, omega arith, apart_behind ends (behind o.demand.now) a.front.rest) (apart_behind end s j))
+              ∙ rw (a.from later (omega arith), window_none end end s (omega arith)));
+        }
+      where
+        later : ℕ
+        later = starts + (end - o.till)
+
+        used : (s : List ℕ) → Dec (o.till < end)
+            → open_first from o.till (fit (starts ∷ (ends ∷ behind o.demand.now)) (window o.till end s)) ≡ open_first from end (fit (later ∷ (ends ∷ behind o.demand.now)) s)
+        used s (yes l) = stretch_over from o.till end starts ends (behind o.demand.now) s p.low i l window_ahead.front.rises k
+        used s (no l) =
+            let x : o.till ≡ end = omega (arith, p.high) in
+            rw x (ap (open_first from end) (stretch_none end starts ends (behind o.demand.now) s))

@@ -1,42 +1,48 @@
-// Fitting, a piece at a time: one step, a walk that counts and a walk that writes. Both walks hand on the supply slice from the first
-// window that is not yet used up or passed.
+// Fitting, a piece at a time: one step, a walk that counts and a walk that writes.
 #![tactic(auto)]
 
 ghost use Rattle.std.specs.Prelude.{◌≡◌, true, length};
 ghost use Rattle.windows.specs.Windows.{is_plain, fit};
 ghost use Rattle.refusals.specs.Outcomes.{front};
-ghost use Rattle.fitting.specs.Steps.{InFit, FitGives, InStretch, Stretches, fit_rooms, FitWrites};
+ghost use Rattle.fitting.specs.Steps.{fit_ahead, FitSound, FitGives, InStretch, Stretches, InSupply, Supplied, Unsupplied, RoomGives, fit_rooms, FitWrites};
 
-use basics::larger;
 use walks::put;
 
-// How far a fitting has come: the demand from the window at `at` on, the first from `wanted` on; the supply slice's first window from
-// `free` on.
+// What is left of a demand and of a supply: of the first window of each only what starts at `wanted` and at `free` or later.
 #[derive(Clone, Copy)]
-pub struct Place {
-    pub at: usize,
+pub struct Fitting<'a> {
+    pub demand: &'a [u32],
     pub wanted: u32,
+    pub supply: &'a [u32],
     pub free: u32,
 }
 
-// Demand served in one stretch: where it ends, and the demand behind it.
+// Which of the three results a window belongs to.
 #[derive(Clone, Copy)]
-pub struct Stretch {
-    pub at: usize,
-    pub wanted: u32,
-    pub till: u32,
+enum Part {
+    Left,
+    Served,
+    Rest,
 }
 
-// The next piece of one of the three results, how many numbers of the supply slice are done with, and the place behind it.
+// The next window of one of the results, and the fitting behind it.
 #[derive(Clone, Copy)]
-pub enum Piece {
-    Left(u32, u32, usize, Place),
-    Served(u32, u32, usize, Place),
-    Rest(u32, u32, usize, Place),
-    Done,
+struct Piece<'a> {
+    part: Part,
+    start: u32,
+    end: u32,
+    behind: Fitting<'a>,
 }
 
-// How many numbers were written: supply left, served, demand left.
+// Demand served in one stretch: the demand behind it, and where it ends.
+#[derive(Clone, Copy)]
+struct Stretch<'a> {
+    demand: &'a [u32],
+    wanted: u32,
+    till: u32,
+}
+
+// How many numbers each result has, or may have: supply left, served, demand left.
 #[derive(Clone, Copy)]
 pub struct Counts {
     pub left: usize,
@@ -44,175 +50,197 @@ pub struct Counts {
     pub rest: usize,
 }
 
-impl Place {
-    // Serves demand from `from` on, in a supply window that ends at `end`, as long as it starts in time.
-    fn stretch(self, demand: &[u32], from: u32, end: u32) -> Stretch
-        requires { InStretch demand.now self from end }
-        ensures { Stretches demand.now self from end result }
+impl<'a> Fitting<'a> {
+    // The fitting of a plain demand into a plain supply.
+    #[tactic(auto, using(crate::proofs::Pieces::starts))]
+    pub fn of(demand: &'a [u32], supply: &'a [u32]) -> Fitting<'a>
+        requires { (is_plain demand.now ≡ true) × (is_plain supply.now ≡ true) }
+        ensures sound { FitSound result }
+        ensures whole { fit_ahead result ≡ fit demand.now supply.now }
     {
-        let mut at = self.at;
-        let mut wanted = self.wanted;
-        let mut till = from;
-        while at < demand.len() {
-            let q = larger(demand[at], wanted);
-            let n = demand[at + 1] - q;
-            if till < q {
-                return Stretch { at, wanted, till };
-            }
-            if end - till < n {
-                return Stretch {
-                    at,
-                    wanted: q + (end - till),
-                    till: end,
-                };
-            }
-            till += n;
-            at += 2;
-            wanted = 0;
+        Fitting {
+            demand,
+            wanted: 0,
+            supply,
+            free: 0,
         }
-        Stretch { at, wanted, till }
     }
 
-    fn next(self, demand: &[u32], supply: &[u32]) -> Piece
-        requires { InFit demand.now supply.now self }
-        ensures { FitGives demand.now supply.now self result }
+    // Serves demand from `from` on, in a supply window that ends at `end`, as long as it starts in time.
+    fn stretch(self, from: u32, end: u32) -> Stretch<'a>
+        requires { InStretch self from end }
+        ensures { Stretches self.entry from end result }
     {
-        let at = self.at;
-        let wanted = self.wanted;
-        if demand.len() <= at {
-            if supply.len() < 2 {
-                return Piece::Done;
+        let mut served = Stretch {
+            demand: self.demand,
+            wanted: self.wanted,
+            till: from,
+        };
+        while let [start, due, behind @ ..] = served.demand {
+            let start = (*start).max(served.wanted);
+            let length = due - start;
+            if served.till < start {
+                return served;
             }
-            let s = larger(supply[0], self.free);
-            let e = supply[1];
-            let free = 0;
-            return Piece::Left(s, e, 2, Place { at, wanted, free });
+            if end - served.till < length {
+                return Stretch {
+                    wanted: start + (end - served.till),
+                    till: end,
+                    ..served
+                };
+            }
+            served = Stretch {
+                demand: behind,
+                wanted: 0,
+                till: served.till + length,
+            };
         }
-        let q = larger(demand[at], wanted);
-        if supply.len() < 2 {
-            let end = demand[at + 1];
-            let at = at + 2;
-            let wanted = 0;
-            let free = 0;
-            return Piece::Rest(q, end, 0, Place { at, wanted, free });
+        served
+    }
+
+    // The fitting once the first supply window is served or left up to `till`.
+    fn supplied_from(self, till: u32) -> Fitting<'a>
+        requires { InSupply self till }
+        ensures { Supplied self.entry till result }
+    {
+        let [_, end, behind @ ..] = self.supply else {
+            return self;
+        };
+        if till < *end {
+            return Fitting { free: till, ..self };
         }
-        let s = larger(supply[0], self.free);
-        let e = supply[1];
-        if e <= q {
-            let free = 0;
-            return Piece::Left(s, e, 2, Place { at, wanted, free });
+        Fitting {
+            supply: behind,
+            free: 0,
+            ..self
         }
-        if s < q {
-            let free = q;
-            return Piece::Left(s, q, 0, Place { at, wanted, free });
+    }
+
+    // The next window of the demand where no supply is left.
+    fn unserved(self) -> Option<Piece<'a>>
+        requires { Unsupplied self }
+        ensures { FitGives self.entry result }
+    {
+        let [start, end, later @ ..] = self.demand else {
+            return None;
+        };
+        let behind = Fitting {
+            demand: later,
+            wanted: 0,
+            ..self
+        };
+        Some(Piece {
+            part: Part::Rest,
+            start: (*start).max(self.wanted),
+            end: *end,
+            behind,
+        })
+    }
+
+    // The next window of one of the results, if anything is left.
+    #[tactic(auto, using(crate::proofs::Pieces::pieces))]
+    fn next(self) -> Option<Piece<'a>>
+        requires { FitSound self }
+        ensures { FitGives self.entry result }
+    {
+        let [start, end, ..] = self.supply else {
+            return self.unserved();
+        };
+        let start = (*start).max(self.free);
+        let [wanted, ..] = self.demand else {
+            return Some(Piece {
+                part: Part::Left,
+                start,
+                end: *end,
+                behind: self.supplied_from(*end),
+            });
+        };
+        let wanted = (*wanted).max(self.wanted);
+        if start < wanted {
+            let till = (*end).min(wanted);
+            return Some(Piece {
+                part: Part::Left,
+                start,
+                end: till,
+                behind: self.supplied_from(till),
+            });
         }
-        let r = self.stretch(demand, s, e);
-        let at = r.at;
-        let wanted = r.wanted;
-        if r.till < e {
-            let free = r.till;
-            return Piece::Served(s, r.till, 0, Place { at, wanted, free });
-        }
-        let free = 0;
-        Piece::Served(s, e, 2, Place { at, wanted, free })
+        let stretch = self.stretch(start, *end);
+        let behind = Fitting {
+            demand: stretch.demand,
+            wanted: stretch.wanted,
+            ..self.supplied_from(stretch.till)
+        };
+        Some(Piece {
+            part: Part::Served,
+            start,
+            end: stretch.till,
+            behind,
+        })
+    }
+}
+
+impl Counts {
+    // Of the room, what is left once a window of a part has its two numbers, if there are two.
+    fn without_window(self, part: Part) -> Option<Counts>
+        ensures { RoomGives part self result }
+    {
+        Some(match part {
+            Part::Left => Counts {
+                left: self.left.checked_sub(2)?,
+                ..self
+            },
+            Part::Served => Counts {
+                served: self.served.checked_sub(2)?,
+                ..self
+            },
+            Part::Rest => Counts {
+                rest: self.rest.checked_sub(2)?,
+                ..self
+            },
+        })
     }
 }
 
 // Whether each of the three results has at most the room that is lent for it.
-pub fn fits(demand: &[u32], supply: &[u32], left: usize, served: usize, rest: usize) -> bool
-    requires { (is_plain demand.now ≡ true) × (is_plain supply.now ≡ true) }
-    ensures { result ≡ fit_rooms (fit demand.now supply.now) left served rest }
+pub fn fits(fitting: Fitting, rooms: Counts) -> bool
+    requires { FitSound fitting }
+    ensures { result ≡ fit_rooms (fit_ahead fitting.entry) rooms.left rooms.served rooms.rest }
 {
-    let mut left_free = left;
-    let mut served_free = served;
-    let mut rest_free = rest;
-    let mut ahead = supply;
-    let mut place = Place {
-        at: 0,
-        wanted: 0,
-        free: 0,
-    };
-    loop {
-        match place.next(demand, ahead) {
-            Piece::Done => {
-                return true;
-            }
-            Piece::Left(_, _, k, behind) => {
-                if left_free < 2 {
-                    return false;
-                }
-                left_free -= 2;
-                ahead = &ahead[k..];
-                place = behind;
-            }
-            Piece::Served(_, _, k, behind) => {
-                if served_free < 2 {
-                    return false;
-                }
-                served_free -= 2;
-                ahead = &ahead[k..];
-                place = behind;
-            }
-            Piece::Rest(_, _, k, behind) => {
-                if rest_free < 2 {
-                    return false;
-                }
-                rest_free -= 2;
-                ahead = &ahead[k..];
-                place = behind;
-            }
-        }
+    let mut free = rooms;
+    let mut place = fitting;
+    while let Some(piece) = place.next() {
+        let Some(room) = free.without_window(piece.part) else {
+            return false;
+        };
+        free = room;
+        place = piece.behind;
     }
+    true
 }
 
-// Writes each of the three results to the front of its buffer.
-pub fn write(
-    demand: &[u32],
-    supply: &[u32],
-    left: &mut [u32],
-    served: &mut [u32],
-    rest: &mut [u32],
-) -> Counts
-    requires { (is_plain demand.now ≡ true) × (is_plain supply.now ≡ true)
-        × (fit_rooms (fit demand.now supply.now) (length left.old) (length served.old) (length rest.old) ≡ true) }
-    ensures fit_writes { FitWrites (fit demand.now supply.now) result }
-    ensures left_after { left.new ≡ front (fit demand.now supply.now).left left.old }
-    ensures served_after { served.new ≡ front (fit demand.now supply.now).served served.old }
-    ensures rest_after { rest.new ≡ front (fit demand.now supply.now).rest rest.old }
+// Writes each of the three results to the front of its buffer, and answers how many numbers each has.
+pub fn write(fitting: Fitting, left: &mut [u32], served: &mut [u32], rest: &mut [u32]) -> Counts
+    requires { FitSound fitting
+        × (fit_rooms (fit_ahead fitting) (length left.old) (length served.old) (length rest.old) ≡ true) }
+    ensures fit_writes { FitWrites (fit_ahead fitting.entry) result }
+    ensures left_after { left.new ≡ front (fit_ahead fitting.entry).left left.old }
+    ensures served_after { served.new ≡ front (fit_ahead fitting.entry).served served.old }
+    ensures rest_after { rest.new ≡ front (fit_ahead fitting.entry).rest rest.old }
 {
-    let mut l: usize = 0;
-    let mut s: usize = 0;
-    let mut r: usize = 0;
-    let mut ahead = supply;
-    let mut place = Place {
-        at: 0,
-        wanted: 0,
-        free: 0,
+    let mut written = Counts {
+        left: 0,
+        served: 0,
+        rest: 0,
     };
-    loop {
-        match place.next(demand, ahead) {
-            Piece::Done => {
-                return Counts {
-                    left: l,
-                    served: s,
-                    rest: r,
-                };
-            }
-            Piece::Left(a, b, k, behind) => {
-                l = put(left, l, a, b);
-                ahead = &ahead[k..];
-                place = behind;
-            }
-            Piece::Served(a, b, k, behind) => {
-                s = put(served, s, a, b);
-                ahead = &ahead[k..];
-                place = behind;
-            }
-            Piece::Rest(a, b, k, behind) => {
-                r = put(rest, r, a, b);
-                ahead = &ahead[k..];
-                place = behind;
-            }
+    let mut place = fitting;
+    while let Some(piece) = place.next() {
+        place = piece.behind;
+        match piece.part {
+            Part::Left => written.left = put(left, written.left, piece.start, piece.end),
+            Part::Served => written.served = put(served, written.served, piece.start, piece.end),
+            Part::Rest => written.rest = put(rest, written.rest, piece.start, piece.end),
         }
     }
+    written
 }

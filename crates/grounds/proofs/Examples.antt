@@ -10,8 +10,7 @@ use Rattle.refusals.specs.Refusals.{number_of}
 use Rattle.refusals.specs.declared.Ground.{Ground}
 use Rattle.refusals.specs.declared.Ground.TheVariants as ground
 use Rattle.fields.specs.Fields.{lines_of, all_but_last, same_bytes, digits_from}
-use Rattle.lines.specs.Lines.{line_of}
-use Rattle.lines.specs.declared.Line.TheVariants.{Wrong}
+use Rattle.lines.specs.Lines.{wrong, line_of}
 use Rattle.reading.specs.Reading.{no_table, ends_with_feed}
 use Rattle.grounds.specs.Texts.{here, FirstGround, Whole, in_line}
 use Rattle.grounds.specs.Places.{RefusedBy}
@@ -95,7 +94,7 @@ abbrev span_line_with : List ℕ → List ℕ
 span_line_with f = 115 ∷ 112 ∷ 97 ∷ 110 ∷ 9 ∷ f
 
 span_field : (f : List ℕ) (x : Ground) → length (span_with f) ≤ 4096 → ends_with_feed (span_with f) ≡ true → lines_of (span_with f) ≡ span_line_with f ∷ []
-    → line_of 1 0 0 (span_line_with f) ≡ Wrong x 2 → RefusedBy (span_with f) (number_of x) 1 2
+    → line_of 1 0 0 (span_line_with f) ≡ wrong x 2 → RefusedBy (span_with f) (number_of x) 1 2
 span_field f x s e l r =
     let first : FirstGround (span_line_with f ∷ []) no_table 1 x 1 2 =
     record { above = no_table; line = span_line_with f; reached = here; ground = refused_ground 1 0 0 (span_line_with f) x 2 r }

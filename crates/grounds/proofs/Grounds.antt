@@ -5,40 +5,20 @@ use mathlib.Core.List.{List}
 use mathlib.Core.Bool.{Bool, true, false, true≢false}
 use native.Mathlib.Omega.{arith}
 use native.Mathlib.Decide.{dec_lt}
+use Rattle.std.specs.Prelude.{Option, Result, Ok, Err, is_ok}
 use Rattle.fields.specs.Fields.{field_at, word_of}
-use Rattle.lines.specs.Lines.{line_of}
-use Rattle.reading.specs.Pieces.{goes_on}
+use Rattle.lines.specs.Lines.{wrong, wrong_at, line_of}
 use Rattle.refusals.specs.declared.Ground.{Ground}
 use Rattle.refusals.specs.declared.Ground.TheVariants as what
 use Rattle.fields.specs.declared.Word.{Word}
 use Rattle.lines.specs.declared.Line.{Line}
-use Rattle.lines.specs.declared.Line.TheVariants.{SpanIs, ServerIs, TaskIs, Wrong}
-use Rattle.grounds.specs.Grounds.{Field, is_number, is_dash, is_kind, is_bad, is_good, field_there, range_there, InLine, AllGood, GroundOf, misplaced, too_many, field_count, bad_field, out_of_range, Right, LineGround, NoGround}
+use Rattle.lines.specs.declared.Wrong.{Wrong}
+use Rattle.grounds.specs.Grounds.{is_bad, is_good, field_there, range_there, InLine, AllGood, GroundOf, misplaced, too_many, field_count, bad_field, out_of_range, Right, LineGround, NoGround}
 use Rattle.grounds.proofs.Judged.{Judged, line_judged}
 
 -- a test that is passed and is not
 both_ways : {A : Type 0} {b : Bool} → b ≡ true → b ≡ false → A
 both_ways p q = absurd (true≢false (sym p ∙ q))
-
--- the way in which a field is bad
-abbrev what_of : Ground → Field → Ground
-what_of d (is_number v) = d
-what_of d is_dash = d
-what_of d is_kind = d
-what_of d (is_bad x) = x
-
--- what a wrong line says
-abbrev wrong_what : Ground → Line → Ground
-wrong_what d (SpanIs h) = d
-wrong_what d (ServerIs s) = d
-wrong_what d (TaskIs k) = d
-wrong_what d (Wrong x place) = x
-
-abbrev wrong_place : Line → ℕ
-wrong_place (SpanIs h) = 0
-wrong_place (ServerIs s) = 0
-wrong_place (TaskIs k) = 0
-wrong_place (Wrong x place) = place
 
 -- ---- grounds exclude each other
 
@@ -52,7 +32,7 @@ same_place P p q a b e f g h = go (dec_lt p q) (dec_lt q p)
     go (no k) (yes l) = both_ways (g q b l) f
     go (no k) (no l) = omega arith
 
-module _ (w : Word) (n servers tasks : ℕ) (line : List ℕ) where
+module _ (w : Option Word) (n servers tasks : ℕ) (line : List ℕ) where
   abbrev Of : Ground → ℕ → Type 0
   Of = GroundOf w n servers tasks line
 
@@ -60,7 +40,7 @@ module _ (w : Word) (n servers tasks : ℕ) (line : List ℕ) where
   bad_not_good {place = place} i e g = both_ways (g place i.behind (omega (arith, i.upto))) (ap is_good e)
 
   -- a wrong line is refused on one ground only
-  pub one_ground : {x y : Ground} {p q : ℕ} → Of x p → Of y q → Wrong x p ≡ Wrong y q
+  pub one_ground : {x y : Ground} {p q : ℕ} → Of x p → Of y q → wrong_at x p ≡ wrong_at y q
   one_ground (misplaced e) (misplaced f) = refl
   one_ground (misplaced e) (too_many p f) = both_ways p e
   one_ground (misplaced e) (field_count p r f) = both_ways p e
@@ -81,15 +61,16 @@ module _ (w : Word) (n servers tasks : ℕ) (line : List ℕ) where
   one_ground (bad_field c i g e) (field_count q s f) = absurd (f c.count)
   one_ground (bad_field {x = x} {place = p} c i g e) (bad_field {x = y} {place = q} d j h f) =
       let k : p ≡ q = same_place (λ l. is_good (field_there w n servers tasks line l)) p q i.behind j.behind (ap is_good e) (ap is_good f) g h in
-      let l : x ≡ y = ap (what_of x) (sym e ∙ (ap (field_there w n servers tasks line) k ∙ f)) in
-      ap (λ z. Wrong z p) l ∙ ap (Wrong y) k
+      let z = sym e ∙ (ap (field_there w n servers tasks line) k ∙ f) in
+      let l : x ≡ y = cc in
+      ap (λ z. wrong_at z p) l ∙ ap (wrong_at y) k
   one_ground (bad_field c i g e) (out_of_range d a j s f) = bad_not_good i e a
   one_ground (out_of_range c a i r e) (misplaced f) = both_ways c.placed f
   one_ground (out_of_range c a i r e) (too_many q f) = both_ways c.room f
   one_ground (out_of_range c a i r e) (field_count q s f) = absurd (f c.count)
   one_ground (out_of_range c a i r e) (bad_field d j h f) = bad_not_good j f a
   one_ground (out_of_range {place = p} c a i r e) (out_of_range {place = q} d b j s f) =
-      ap (Wrong what.OutOfRange) (same_place (range_there w n servers tasks line) p q i.behind j.behind e f r s)
+      ap (wrong_at what.OutOfRange) (same_place (range_there w n servers tasks line) p q i.behind j.behind e f r s)
 
   -- and one that has passed on none
   pub right_none : {x : Ground} {p : ℕ} → Right w n servers tasks line → Of x p → ⊥
@@ -99,39 +80,36 @@ module _ (w : Word) (n servers tasks : ℕ) (line : List ℕ) where
   right_none k (bad_field c i g e) = bad_not_good i e k.fields
   right_none k (out_of_range {place = p} c a i r e) = both_ways (k.ranges p i.behind (omega (arith, i.upto))) e
 
-  judged_is : {x : Ground} {p : ℕ} (l : Line) → Judged w n servers tasks line l → Of x p → l ≡ Wrong x p
-  judged_is (SpanIs h) k g = absurd (right_none k g)
-  judged_is (ServerIs s) k g = absurd (right_none k g)
-  judged_is (TaskIs t) k g = absurd (right_none k g)
-  judged_is (Wrong y q) k g = one_ground k g
+  judged_is : {x : Ground} {p : ℕ} (l : Result Line Wrong) → Judged w n servers tasks line l → Of x p → l ≡ wrong x p
+  judged_is (Ok s) k g = absurd (right_none k g)
+  judged_is (Err e) k g = ap (λ (z : Wrong). Err z) (one_ground k g)
 
 module _ (n servers tasks : ℕ) (line : List ℕ) where
-  abbrev the_word : Word
+  abbrev the_word : Option Word
   the_word = word_of (field_at line 1)
 
   -- a line that is refused has the ground
-  pub refused_ground : (x : Ground) (place : ℕ) → line_of n servers tasks line ≡ Wrong x place → LineGround n servers tasks line x place
+  pub refused_ground : (x : Ground) (place : ℕ) → line_of n servers tasks line ≡ wrong x place → LineGround n servers tasks line x place
   refused_ground x place e = subst (Judged the_word n servers tasks line) e (line_judged n servers tasks line)
 
   -- a line that has a ground is refused, on it
-  pub ground_refuses : (x : Ground) (place : ℕ) → LineGround n servers tasks line x place → line_of n servers tasks line ≡ Wrong x place
+  pub ground_refuses : (x : Ground) (place : ℕ) → LineGround n servers tasks line x place → line_of n servers tasks line ≡ wrong x place
   ground_refuses x place g = judged_is the_word n servers tasks line (line_of n servers tasks line) (line_judged n servers tasks line) g
 
   -- a line that says something has no ground, and one that has no ground says something
-  pub said_none : goes_on (line_of n servers tasks line) ≡ true → NoGround n servers tasks line
-  said_none e x place g = both_ways e (ap goes_on (ground_refuses x place g))
+  pub said_none : is_ok (line_of n servers tasks line) ≡ true → NoGround n servers tasks line
+  said_none e x place g = both_ways e (ap is_ok (ground_refuses x place g))
 
-  pub none_said : NoGround n servers tasks line → goes_on (line_of n servers tasks line) ≡ true
+  pub none_said : NoGround n servers tasks line → is_ok (line_of n servers tasks line) ≡ true
   none_said h = go (line_of n servers tasks line) refl
     where
-      go : (l : Line) → line_of n servers tasks line ≡ l → goes_on l ≡ true
-      go (SpanIs k) e = refl
-      go (ServerIs k) e = refl
-      go (TaskIs k) e = refl
-      go (Wrong x place) e = absurd (h x place (refused_ground x place e))
+      go : (l : Result Line Wrong) → line_of n servers tasks line ≡ l → is_ok l ≡ true
+      go (Ok s) e = refl
+      go (Err w) e = absurd (h w.ground w.place (refused_ground w.ground w.place e))
 
   -- two grounds of a line are one, at one place
   pub ground_once : (x y : Ground) (p q : ℕ) → LineGround n servers tasks line x p → LineGround n servers tasks line y q → (x ≡ y) × (p ≡ q)
   ground_once x y p q g h =
-      let e : Wrong x p ≡ Wrong y q = sym (ground_refuses x p g) ∙ ground_refuses y q h in
-      (ap (wrong_what x) e, ap wrong_place e)
+      let e : wrong x p ≡ wrong y q = sym (ground_refuses x p g) ∙ ground_refuses y q h in
+      let f : wrong_at x p ≡ wrong_at y q = cc in
+      (ap (λ (w : Wrong). w.ground) f, ap (λ (w : Wrong). w.place) f)

@@ -6,6 +6,7 @@ use mathlib.Core.List.{List}
 use mathlib.Core.Bool.{Bool, true, false, true≢false, ◌||◌}
 use native.Mathlib.Omega.{arith}
 use lib.Dec.{eqb}
+use Rattle.std.specs.Prelude.{Option, Some, None}
 use Rattle.basics.specs.Choice.{pick}
 use Rattle.refusals.specs.Refusals.{number_of, last_place}
 use Rattle.refusals.specs.declared.Ground.{Ground}
@@ -175,12 +176,12 @@ module _ (text : List ℕ) where
 
   -- ---- the place: of a field, or 0
 
-  count_most : (w : Word) → count_of w ≤ last_place
-  count_most word.Span = omega arith
-  count_most word.Server = omega arith
-  count_most word.Once = omega arith
-  count_most word.Every = omega arith
-  count_most word.Unknown = omega arith
+  count_most : (w : Option Word) → count_of w ≤ last_place
+  count_most (Some word.Span) = omega arith
+  count_most (Some word.Server) = omega arith
+  count_most (Some word.Once) = omega arith
+  count_most (Some word.Every) = omega arith
+  count_most None = omega arith
 
   place_within : {k place : ℕ} {above : Table} {line : List ℕ} → AtField k above line text place → (2 ≤ place) × (place ≤ last_place)
   place_within {k} {place} {above} {line} a = (a.there.behind, omega (arith, a.there.upto, count_most (the_word k above line)))

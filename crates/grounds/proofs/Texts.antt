@@ -7,18 +7,18 @@ use native.Mathlib.Omega.{arith}
 use lib.ListN.{length}
 use lib.Dec.{leb, eqb}
 use borrow.Author.Tests.{leb-true, leb-false, eqb-true}
-use Rattle.std.specs.Prelude.{Option, Some, None, Ok, Err}
+use Rattle.std.specs.Prelude.{Option, Some, None, Result, Ok, Err, is_ok}
 use Rattle.table.specs.Rules.{servers_of, tasks_of}
 use Rattle.table.specs.Span.{periods_of, span_of}
 use Rattle.table.specs.declared.Table.{Table}
 use Rattle.fields.specs.Fields.{lines_of}
 use Rattle.lines.specs.declared.Line.{Line}
-use Rattle.lines.specs.declared.Line.TheVariants.{SpanIs, ServerIs, TaskIs, Wrong}
+use Rattle.lines.specs.declared.Wrong.{Wrong}
 use Rattle.refusals.specs.Refusals.{number_of, refused_at}
 use Rattle.refusals.specs.declared.Ground.{Ground}
 use Rattle.refusals.specs.declared.Refusal.{Refusal}
 use Rattle.reading.specs.Reading.{no_table, with_span, refusal, ended_of, read_lines, ends_with_feed, reading_of}
-use Rattle.reading.specs.Pieces.{with_line, goes_on}
+use Rattle.reading.specs.Pieces.{with_said}
 use Rattle.reading.proofs.Rows.{after_right}
 use Rattle.reading.proofs.Accepted.{too_long, not_ended, by_lines}
 use Rattle.grounds.specs.Texts.{said, GroundBehind, RightBehind, Reached, here, later, FirstGround, AllRight, end, next, both, Whole, TextGround, long, unended, in_line, missing, over}
@@ -34,7 +34,7 @@ reached_reads [] t n {u = u} {m = m} {x = x} {k = k} {place = place} r g = elim 
 reached_reads (l ∷ ls) t n {x = x} {place = place} here g = rw (ground_refuses n t.servers_n t.tasks_n l x place g)
 reached_reads (l ∷ ls) t n (later h f) g =
     after_right (said t n l) t n (λ u. read_lines ls u (n + 1)) (none_said n t.servers_n t.tasks_n l h)
-    ∙ reached_reads ls (with_line t (said t n l)) (n + 1) f g
+    ∙ reached_reads ls (with_said t (said t n l)) (n + 1) f g
 
 first_reads : (ls : List (List ℕ)) (t : Table) (n : ℕ) {x : Ground} {k place : ℕ} → FirstGround ls t n x k place → read_lines ls t n ≡ refusal x k place
 first_reads ls t n f = reached_reads ls t n f.reached f.ground
@@ -45,7 +45,7 @@ unfolding read_lines
 right_reads [] t n end = refl
 right_reads (l ∷ ls) t n (next h r) =
     after_right (said t n l) t n (λ u. read_lines ls u (n + 1)) (none_said n t.servers_n t.tasks_n l h)
-    ∙ right_reads ls (with_line t (said t n l)) (n + 1) r
+    ∙ right_reads ls (with_said t (said t n l)) (n + 1) r
 
 whole_reads : (text : List ℕ) {u : Table} {m : ℕ} → Whole text → AllRight (lines_of text) no_table 1 u m → reading_of text ≡ ended_of u m
 whole_reads text w r = by_lines text w.short w.ended ∙ right_reads (lines_of text) no_table 1 r
@@ -65,23 +65,18 @@ data Come (ls : List (List ℕ)) (t : Table) (n : ℕ) : Type 0 where
   first : {x : Ground} {k place : ℕ} → FirstGround ls t n x k place → Come ls t n
   right : {u : Table} {m : ℕ} → AllRight ls t n u m → Come ls t n
 
-come_later : {l : List ℕ} {ls : List (List ℕ)} {t : Table} {n : ℕ} → RightBehind t n l → Come ls (with_line t (said t n l)) (n + 1) → Come (l ∷ ls) t n
+come_later : {l : List ℕ} {ls : List (List ℕ)} {t : Table} {n : ℕ} → RightBehind t n l → Come ls (with_said t (said t n l)) (n + 1) → Come (l ∷ ls) t n
 come_later h (first f) = first (record { above = f.above; line = f.line; reached = later h f.reached; ground = f.ground })
 come_later h (right r) = right (next h r)
 
 come : (ls : List (List ℕ)) (t : Table) (n : ℕ) → Come ls t n
 come [] t n = right end
-come (l ∷ ls) t n = go (said t n l) refl (come ls (with_line t (said t n l)) (n + 1))
+come (l ∷ ls) t n = go (said t n l) refl (come ls (with_said t (said t n l)) (n + 1))
   where
-    go_on : goes_on (said t n l) ≡ true → Come ls (with_line t (said t n l)) (n + 1) → Come (l ∷ ls) t n
-    go_on e c = come_later (said_none n t.servers_n t.tasks_n l e) c
-
-    go : (x : Line) → said t n l ≡ x → Come ls (with_line t (said t n l)) (n + 1) → Come (l ∷ ls) t n
-    go (SpanIs h) e c = go_on (ap goes_on e) c
-    go (ServerIs s) e c = go_on (ap goes_on e) c
-    go (TaskIs k) e c = go_on (ap goes_on e) c
-    go (Wrong x place) e c =
-        first (record { above = t; line = l; reached = here; ground = refused_ground n t.servers_n t.tasks_n l x place e })
+    go : (x : Result Line Wrong) → said t n l ≡ x → Come ls (with_said t (said t n l)) (n + 1) → Come (l ∷ ls) t n
+    go (Ok s) e c = come_later (said_none n t.servers_n t.tasks_n l (ap is_ok e)) c
+    go (Err w) e c =
+        first (record { above = t; line = l; reached = here; ground = refused_ground n t.servers_n t.tasks_n l w.ground w.place e })
 
 -- a text has a ground, or is accepted
 pub data TextJudged (text : List ℕ) : Type 0 where
@@ -143,7 +138,7 @@ reached_once [] t n {u = u} {v = v} {a = a} {b = b} {x = x} {y = y} {k = k} {l =
 reached_once (l ∷ ls) t n here g here h = (ground_once n t.servers_n t.tasks_n l _ _ _ _ g h).0
 reached_once (l ∷ ls) t n {x = x} {p = p} here g (later r f) h = absurd (r x p g)
 reached_once (l ∷ ls) t n {y = y} {q = q} (later r f) g here h = absurd (r y q h)
-reached_once (l ∷ ls) t n (later r e) g (later s f) h = reached_once ls (with_line t (said t n l)) (n + 1) e g f h
+reached_once (l ∷ ls) t n (later r e) g (later s f) h = reached_once ls (with_said t (said t n l)) (n + 1) e g f h
 
 first_once : (ls : List (List ℕ)) (t : Table) (n : ℕ) {x y : Ground} {k l p q : ℕ} → FirstGround ls t n x k p → FirstGround ls t n y l q → x ≡ y
 first_once ls t n f g = reached_once ls t n f.reached f.ground g.reached g.ground
@@ -152,14 +147,14 @@ reached_not_right : (ls : List (List ℕ)) (t : Table) (n : ℕ) {u v : Table} {
     → AllRight ls t n v m → ⊥
 reached_not_right [] t n {u = u} {v = v} {a = a} {x = x} {k = k} {p = p} {m = m} r g _ = elim r [ ]
 reached_not_right (l ∷ ls) t n {x = x} {p = p} here g (next r a) = r x p g
-reached_not_right (l ∷ ls) t n (later s f) g (next r a) = reached_not_right ls (with_line t (said t n l)) (n + 1) f g a
+reached_not_right (l ∷ ls) t n (later s f) g (next r a) = reached_not_right ls (with_said t (said t n l)) (n + 1) f g a
 
 first_not_right : (ls : List (List ℕ)) (t : Table) (n : ℕ) {x : Ground} {k p : ℕ} {u : Table} {m : ℕ} → FirstGround ls t n x k p → AllRight ls t n u m → ⊥
 first_not_right ls t n f a = reached_not_right ls t n f.reached f.ground a
 
 right_once : (ls : List (List ℕ)) (t : Table) (n : ℕ) {u v : Table} {m k : ℕ} → AllRight ls t n u m → AllRight ls t n v k → u ≡ v
 right_once [] t n end end = refl
-right_once (l ∷ ls) t n (next r a) (next s b) = right_once ls (with_line t (said t n l)) (n + 1) a b
+right_once (l ∷ ls) t n (next r a) (next s b) = right_once ls (with_said t (said t n l)) (n + 1) a b
 
 -- two grounds of a text have the same number, line and place
 pub text_ground_once : (text : List ℕ) {x y : Ground} {k l p q : ℕ} → TextGround text x k p → TextGround text y l q → refused_at x k p ≡ refused_at y l q

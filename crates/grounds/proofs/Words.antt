@@ -7,18 +7,16 @@ use native.Mathlib.Omega.{arith}
 use lib.ListN.{length}
 use lib.Dec.{leb, eqb}
 use borrow.Author.Tests.{eqb-true, eq-eqb, ne_eqb, leb-false, lt-leb}
+use Rattle.std.specs.Prelude.{Result, Ok, Err}
 use Rattle.basics.specs.Choice.{pick}
 use Rattle.basics.proofs.Tests.{and_left, and_right}
 use Rattle.table.specs.Rules.{all}
+use Rattle.table.specs.declared.Kind.{Kind}
 use Rattle.table.specs.declared.Kind.TheVariants.{Deferrable, Periodic}
 use Rattle.fields.specs.Fields.{same_bytes, deferrable_word, periodic_word, dash, is_digit, starts_with_zero, digits_from, field_number}
 use Rattle.lines.specs.Lines.{kind_of}
 use Rattle.refusals.specs.declared.Ground.{Ground}
 use Rattle.refusals.specs.declared.Ground.TheVariants as what
-use Rattle.fields.specs.declared.Number.{Number}
-use Rattle.fields.specs.declared.Number.TheVariants as number
-use Rattle.lines.specs.declared.KindField.{KindField}
-use Rattle.lines.specs.declared.KindField.TheVariants as kind
 use Rattle.grounds.specs.Grounds.{May, a_number, a_number_or_dash, a_kind, Field, is_number, is_dash, is_kind, is_bad, of_number, of_kind, read_as}
 use Rattle.grounds.specs.Words.{BadNumber, no_byte, dash_alone, other_byte, zero_first, six_digits, BadKind, no_kind, other_kind, BadAs}
 
@@ -79,16 +77,16 @@ digits_no_dash f d q = true≢false (sym d ∙ (ap (all is_digit) q ∙ dash_dig
 
 -- ---- numbers
 
-abbrev NumberWords : List ℕ → Number → Type 0
-NumberWords f (number.Value v) = Unit {0}
-NumberWords f (number.Bad x) = BadNumber f x
+abbrev NumberWords : List ℕ → Result ℕ Ground → Type 0
+NumberWords f (Ok v) = Unit {0}
+NumberWords f (Err x) = BadNumber f x
 
 number_words : (f : List ℕ) → NumberWords f (field_number f)
 number_words f = go (eqb (length f) 0) refl (same_bytes f dash) refl (all is_digit f) refl (starts_with_zero f) refl (leb (length f) 5) refl
   where
     go : (a : Bool) → eqb (length f) 0 ≡ a → (b : Bool) → same_bytes f dash ≡ b → (c : Bool) → all is_digit f ≡ c → (d : Bool) → starts_with_zero f ≡ d
         → (e : Bool) → leb (length f) 5 ≡ e
-        → NumberWords f (pick a (number.Bad what.Empty) (pick b (number.Bad what.Dash) (pick c (pick d (number.Bad what.LeadingZero) (pick e (number.Value (digits_from 0 f)) (number.Bad what.TooManyDigits))) (number.Bad what.NoDigit))))
+        → NumberWords f (pick a (Err what.Empty) (pick b (Err what.Dash) (pick c (pick d (Err what.LeadingZero) (pick e (Ok (digits_from 0 f)) (Err what.TooManyDigits))) (Err what.NoDigit))))
     go true p b q c r d s e t = no_byte (none_is f p)
     go false p true q c r d s e t = dash_alone (same_is f dash q)
     go false p false q true r true s e t = zero_first r s
@@ -96,7 +94,7 @@ number_words f = go (eqb (length f) 0) refl (same_bytes f dash) refl (all is_dig
     go false p false q true r false s false t = six_digits r s (leb-false (length f) 5 t)
     go false p false q false r d s e t = other_byte (not_same f dash q) r
 
-words_number : (f : List ℕ) (x : Ground) → BadNumber f x → field_number f ≡ number.Bad x
+words_number : (f : List ℕ) (x : Ground) → BadNumber f x → field_number f ≡ Err x
 unfolding same_bytes
 words_number f x (no_byte e) = ap field_number e
 words_number f x (dash_alone e) = ap field_number e
@@ -109,21 +107,21 @@ words_number f x (six_digits d z l) =
 
 -- ---- kinds
 
-abbrev KindWords : List ℕ → KindField → Type 0
-KindWords f (kind.Is k) = Unit {0}
-KindWords f (kind.Bad x) = BadKind f x
+abbrev KindWords : List ℕ → Result Kind Ground → Type 0
+KindWords f (Ok k) = Unit {0}
+KindWords f (Err x) = BadKind f x
 
 kind_words : (f : List ℕ) → KindWords f (kind_of f)
 kind_words f = go (eqb (length f) 0) refl (same_bytes f deferrable_word) refl (same_bytes f periodic_word) refl
   where
     go : (a : Bool) → eqb (length f) 0 ≡ a → (b : Bool) → same_bytes f deferrable_word ≡ b → (c : Bool) → same_bytes f periodic_word ≡ c
-        → KindWords f (pick a (kind.Bad what.Empty) (pick b (kind.Is Deferrable) (pick c (kind.Is Periodic) (kind.Bad what.UnknownKind))))
+        → KindWords f (pick a (Err what.Empty) (pick b (Ok Deferrable) (pick c (Ok Periodic) (Err what.UnknownKind))))
     go true p b q c r = no_kind (none_is f p)
     go false p true q c r = tt
     go false p false q true r = tt
     go false p false q false r = other_kind (not_none f p) (not_same f deferrable_word q) (not_same f periodic_word r)
 
-words_kind : (f : List ℕ) (x : Ground) → BadKind f x → kind_of f ≡ kind.Bad x
+words_kind : (f : List ℕ) (x : Ground) → BadKind f x → kind_of f ≡ Err x
 words_kind f x (no_kind e) = ap kind_of e
 words_kind f x (other_kind h d p) = rw (some_is f h, differ f deferrable_word d, differ f periodic_word p)
 
@@ -138,20 +136,20 @@ FieldWords m f (is_bad x) = BadAs m f x
 field_words : (m : May) (f : List ℕ) → FieldWords m f (read_as m f)
 field_words a_number f = go (field_number f) (number_words f)
   where
-    go : (x : Number) → NumberWords f x → FieldWords a_number f (of_number x)
-    go (number.Value v) h = tt
-    go (number.Bad x) h = h
+    go : (x : Result ℕ Ground) → NumberWords f x → FieldWords a_number f (of_number x)
+    go (Ok v) h = tt
+    go (Err x) h = h
 field_words a_number_or_dash f = go (same_bytes f dash) refl (field_number f) (number_words f)
   where
-    go : (b : Bool) → same_bytes f dash ≡ b → (x : Number) → NumberWords f x → FieldWords a_number_or_dash f (pick b is_dash (of_number x))
+    go : (b : Bool) → same_bytes f dash ≡ b → (x : Result ℕ Ground) → NumberWords f x → FieldWords a_number_or_dash f (pick b is_dash (of_number x))
     go true e x h = tt
-    go false e (number.Value v) h = tt
-    go false e (number.Bad x) h = (not_same f dash e, h)
+    go false e (Ok v) h = tt
+    go false e (Err x) h = (not_same f dash e, h)
 field_words a_kind f = go (kind_of f) (kind_words f)
   where
-    go : (x : KindField) → KindWords f x → FieldWords a_kind f (of_kind x)
-    go (kind.Is k) h = tt
-    go (kind.Bad x) h = h
+    go : (x : Result Kind Ground) → KindWords f x → FieldWords a_kind f (of_kind x)
+    go (Ok k) h = tt
+    go (Err x) h = h
 
 -- a bad field is bad in the words
 pub bad_words : (m : May) (f : List ℕ) (x : Ground) → read_as m f ≡ is_bad x → BadAs m f x

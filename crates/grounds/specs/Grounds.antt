@@ -1,18 +1,15 @@
 -- Document 01, 'The table text' and 'Numbers given on refusal': the grounds on which one line is refused, each told by itself and for every
 -- word by one table of its fields. Nothing here says how a line is read: Fields.antt of `fields` says what a field, a word and a number are.
-use Rattle.std.specs.Prelude.{ℕ, suc, ◌-◌, ◌≤◌, ◌<◌, ◌≡◌, List, [], ◌∷◌, Bool, true, false, ◌&&◌, length, get_or, ltb, leb, eqb}
+use Rattle.std.specs.Prelude.{ℕ, suc, ◌-◌, ◌≤◌, ◌<◌, ◌≡◌, List, [], ◌∷◌, Bool, true, false, ◌&&◌, Option, Some, None, Result, Ok, Err, length, get_or, ltb, leb, eqb}
 use Rattle.basics.specs.Choice.{pick}
 use Rattle.table.specs.Rules.{between, in_ticks}
+use Rattle.table.specs.declared.Kind.{Kind}
 use Rattle.fields.specs.Fields.{fields_of, field_at, same_bytes, dash, word_of, field_number}
 use Rattle.lines.specs.Lines.{kind_of}
 use Rattle.refusals.specs.declared.Ground.{Ground}
 use Rattle.refusals.specs.declared.Ground.TheVariants.{Misplaced, TooMany, FieldCount, OutOfRange}
 use Rattle.fields.specs.declared.Word.{Word}
 use Rattle.fields.specs.declared.Word.TheVariants as word
-use Rattle.fields.specs.declared.Number.{Number}
-use Rattle.fields.specs.declared.Number.TheVariants as number
-use Rattle.lines.specs.declared.KindField.{KindField}
-use Rattle.lines.specs.declared.KindField.TheVariants as kind
 
 -- ---- the table of fields
 
@@ -38,23 +35,23 @@ abbrev pub entry : May → Range → Entry
 entry m r = record { may = m; range = r }
 
 -- "first field | then"
-abbrev pub row_of : Word → List Entry
+abbrev pub row_of : Option Word → List Entry
 -- `span`: "ticks H, or `-`"
-row_of word.Span = entry a_number_or_dash ticks ∷ []
+row_of (Some word.Span) = entry a_number_or_dash ticks ∷ []
 -- `server`: "`deferrable` or `periodic`, capacity C, period T"
-row_of word.Server = entry a_kind unranged ∷ entry a_number ticks_to_period ∷ entry a_number ticks ∷ []
+row_of (Some word.Server) = entry a_kind unranged ∷ entry a_number ticks_to_period ∷ entry a_number ticks ∷ []
 -- `once`: "server, work, instant, deadline"
-row_of word.Once = entry a_number a_server ∷ entry a_number ticks ∷ entry a_number from_zero ∷ entry a_number ticks ∷ []
+row_of (Some word.Once) = entry a_number a_server ∷ entry a_number ticks ∷ entry a_number from_zero ∷ entry a_number ticks ∷ []
 -- `every`: "server, work, offset, period, deadline or `-`"
-row_of word.Every = entry a_number a_server ∷ entry a_number ticks ∷ entry a_number from_zero ∷ entry a_number ticks ∷ entry a_number_or_dash ticks ∷ []
-row_of word.Unknown = []
+row_of (Some word.Every) = entry a_number a_server ∷ entry a_number ticks ∷ entry a_number from_zero ∷ entry a_number ticks ∷ entry a_number_or_dash ticks ∷ []
+row_of None = []
 
 -- the entry of a place, the first word's being 1
-abbrev pub entry_at : Word → ℕ → Entry
+abbrev pub entry_at : Option Word → ℕ → Entry
 entry_at w place = get_or (row_of w) (place - 2) (entry a_number unranged)
 
 -- how many fields a line has, its word and what comes then
-abbrev pub count_of : Word → ℕ
+abbrev pub count_of : Option Word → ℕ
 count_of w = suc (length (row_of w))
 
 -- ---- a field, read as what may stand there
@@ -65,13 +62,13 @@ pub data Field : Type 0 where
   is_kind : Field
   is_bad : Ground → Field
 
-abbrev pub of_number : Number → Field
-of_number (number.Value v) = is_number v
-of_number (number.Bad x) = is_bad x
+abbrev pub of_number : Result ℕ Ground → Field
+of_number (Ok v) = is_number v
+of_number (Err x) = is_bad x
 
-abbrev pub of_kind : KindField → Field
-of_kind (kind.Is k) = is_kind
-of_kind (kind.Bad x) = is_bad x
+abbrev pub of_kind : Result Kind Ground → Field
+of_kind (Ok k) = is_kind
+of_kind (Err x) = is_bad x
 
 abbrev pub read_as : May → List ℕ → Field
 read_as a_number f = of_number (field_number f)
@@ -88,9 +85,9 @@ is_good (is_bad x) = false
 -- ---- ranges
 
 -- a server's period, the number at place 4
-abbrev pub value_of : Number → ℕ
-value_of (number.Value v) = v
-value_of (number.Bad x) = 0
+abbrev pub value_of : Result ℕ Ground → ℕ
+value_of (Ok v) = v
+value_of (Err x) = 0
 
 abbrev pub period_at : List ℕ → ℕ
 period_at line = value_of (field_number (field_at line 4))
@@ -113,24 +110,24 @@ in_range r servers line (is_bad x) = true
 -- ---- words in their place
 
 -- 3: "First `span`, then servers, then tasks"; "a task line before any server line"
-abbrev pub in_place : Word → ℕ → ℕ → ℕ → Bool
-in_place word.Span n servers tasks = eqb n 1
-in_place word.Server n servers tasks = ltb 1 n && eqb tasks 0
-in_place word.Once n servers tasks = ltb 0 servers
-in_place word.Every n servers tasks = ltb 0 servers
-in_place word.Unknown n servers tasks = false
+abbrev pub in_place : Option Word → ℕ → ℕ → ℕ → Bool
+in_place (Some word.Span) n servers tasks = eqb n 1
+in_place (Some word.Server) n servers tasks = ltb 1 n && eqb tasks 0
+in_place (Some word.Once) n servers tasks = ltb 0 servers
+in_place (Some word.Every) n servers tasks = ltb 0 servers
+in_place None n servers tasks = false
 
 -- 7: it is no "17th server or 65th task"
-abbrev pub has_room : Word → ℕ → ℕ → Bool
-has_room word.Span servers tasks = true
-has_room word.Server servers tasks = ltb servers 16
-has_room word.Once servers tasks = ltb tasks 64
-has_room word.Every servers tasks = ltb tasks 64
-has_room word.Unknown servers tasks = true
+abbrev pub has_room : Option Word → ℕ → ℕ → Bool
+has_room (Some word.Span) servers tasks = true
+has_room (Some word.Server) servers tasks = ltb servers 16
+has_room (Some word.Once) servers tasks = ltb tasks 64
+has_room (Some word.Every) servers tasks = ltb tasks 64
+has_room None servers tasks = true
 
 -- ---- the grounds of line n, whose first field is the word w, behind so many servers and tasks
 
-module _ (w : Word) (n servers tasks : ℕ) (line : List ℕ) where
+module _ (w : Option Word) (n servers tasks : ℕ) (line : List ℕ) where
   -- the field at a place, and whether it is in its range
   abbrev pub field_there : ℕ → Field
   field_there place = read_as (entry_at w place).may (field_at line place)

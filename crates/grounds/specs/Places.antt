@@ -1,6 +1,6 @@
 -- Document 02, E2: "5, 6 and 14 to 18 give line and field's place, the line's first word being 1; other refusals give place 0." For each of these numbers
 -- what a text has that is refused by it, with this line and place.
-use Rattle.std.specs.Prelude.{ℕ, ◌≤◌, ◌≡◌, List, Bool, true, false, ◌||◌, Err, eqb}
+use Rattle.std.specs.Prelude.{ℕ, ◌≤◌, ◌≡◌, List, Bool, true, false, ◌||◌, Option, Err, eqb}
 use Rattle.refusals.specs.Refusals.{last_place}
 use Rattle.refusals.specs.declared.Ground.{Ground}
 use Rattle.refusals.specs.declared.Ground.TheVariants.{Empty, Dash, NoDigit, LeadingZero, TooManyDigits, UnknownKind}
@@ -36,7 +36,7 @@ RefusedBy text number k place = reading_of text ≡ Err (record { number = numbe
 
 -- line k, behind the table that the lines above it make, by its first word
 module _ (k : ℕ) (above : Table) (line : List ℕ) where
-  abbrev pub the_word : Word
+  abbrev pub the_word : Option Word
   the_word = word_of (field_at line 1)
 
   -- what may stand at a place

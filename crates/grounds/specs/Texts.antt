@@ -1,21 +1,22 @@
 -- Document 01, 'Numbers given on refusal': "Each ground is tested by order: .. 1, 2; then line by line 3, 7, 4, 5, 6, within 5 and within 6 from the left;
 -- then 3 for what is missing, on the line after the last; then 8." The grounds of a whole text, each with its line and place; each contains that those
 -- before it do not hold.
-use Rattle.std.specs.Prelude.{ℕ, ◌+◌, ◌≤◌, ◌<◌, ◌≡◌, List, [], ◌∷◌, Bool, true, false, ◌&&◌, None, length, ltb}
+use Rattle.std.specs.Prelude.{ℕ, ◌+◌, ◌≤◌, ◌<◌, ◌≡◌, List, [], ◌∷◌, Bool, true, false, ◌&&◌, None, Result, length, ltb}
 use Rattle.table.specs.Rules.{servers_of, tasks_of}
 use Rattle.table.specs.Span.{periods_of, span_of}
 use Rattle.table.specs.declared.Table.{Table}
 use Rattle.fields.specs.Fields.{lines_of}
 use Rattle.lines.specs.Lines.{line_of}
 use Rattle.lines.specs.declared.Line.{Line}
+use Rattle.lines.specs.declared.Wrong.{Wrong}
 use Rattle.reading.specs.Reading.{no_table, ends_with_feed}
-use Rattle.reading.specs.Pieces.{with_line}
+use Rattle.reading.specs.Pieces.{with_said}
 use Rattle.refusals.specs.declared.Ground.{Ground}
 use Rattle.refusals.specs.declared.Ground.TheVariants.{TextTooLong, NotEnded, Missing, MultipleOver}
 use Rattle.grounds.specs.Grounds.{LineGround, NoGround}
 
 -- what line n says behind a table, and its grounds there
-abbrev pub said : Table → ℕ → List ℕ → Line
+abbrev pub said : Table → ℕ → List ℕ → Result Line Wrong
 said t n l = line_of n t.servers_n t.tasks_n l
 
 abbrev pub GroundBehind : Table → ℕ → List ℕ → Ground → ℕ → Type 0
@@ -28,7 +29,7 @@ RightBehind t n l = NoGround n t.servers_n t.tasks_n l
 pub data Reached : List (List ℕ) → Table → ℕ → ℕ → Table → List ℕ → Type 0 where
   here : {l : List ℕ} {ls : List (List ℕ)} {t : Table} {n : ℕ} → Reached (l ∷ ls) t n n t l
   later : {l m : List ℕ} {ls : List (List ℕ)} {t u : Table} {n k : ℕ}
-      → RightBehind t n l → Reached ls (with_line t (said t n l)) (n + 1) k u m → Reached (l ∷ ls) t n k u m
+      → RightBehind t n l → Reached ls (with_said t (said t n l)) (n + 1) k u m → Reached (l ∷ ls) t n k u m
 
 -- line k is the first that has a ground
 pub record FirstGround (ls : List (List ℕ)) (t : Table) (n : ℕ) (x : Ground) (k place : ℕ) : Type 0 where
@@ -41,7 +42,7 @@ pub record FirstGround (ls : List (List ℕ)) (t : Table) (n : ℕ) (x : Ground)
 pub data AllRight : List (List ℕ) → Table → ℕ → Table → ℕ → Type 0 where
   end : {t : Table} {n : ℕ} → AllRight [] t n t n
   next : {l : List ℕ} {ls : List (List ℕ)} {t u : Table} {n m : ℕ}
-      → RightBehind t n l → AllRight ls (with_line t (said t n l)) (n + 1) u m → AllRight (l ∷ ls) t n u m
+      → RightBehind t n l → AllRight ls (with_said t (said t n l)) (n + 1) u m → AllRight (l ∷ ls) t n u m
 
 -- there is a server, and there is a task
 abbrev pub both : Table → Bool

@@ -20,7 +20,7 @@ use Rattle.lines.specs.declared.Wrong.{Wrong}
 abbrev pub wrong_at : (ground : Ground) (place : ℕ) → Wrong
 wrong_at g place = record { ground = g; place = place }
 
--- the answer of a line with which it is
+-- the answer of a line with which something is wrong
 abbrev pub wrong : Ground → ℕ → Result Line Wrong
 wrong g place = Err (wrong_at g place)
 

@@ -61,12 +61,20 @@ fn at<T>(read: Result<T, Ground>, place: u32) -> Result<T, Wrong>
     read.map_err(|ground| Wrong { ground, place })
 }
 
-// Whether `-` stands at a place, the line's first word being 1.
+// The field at a place, the line's first word being 1.
+fn field_at(line: &[u8], place: u32) -> &[u8]
+    requires { 0 < place }
+    ensures { result.now ≡ field_at line.now place }
+{
+    field(line, place as usize - 1)
+}
+
+// Whether `-` stands at a place.
 fn dash_at(line: &[u8], place: u32) -> bool
     requires { 0 < place }
     ensures { result ≡ same_bytes (field_at line.now place) dash }
 {
-    same(field(line, place as usize - 1), b"-")
+    same(field_at(line, place), b"-")
 }
 
 // The number at a place.
@@ -74,7 +82,7 @@ fn number_at(line: &[u8], place: u32) -> Result<u32, Wrong>
     requires { 0 < place }
     ensures { ReadAt (field_number (field_at line.now place)) place result }
 {
-    at(number(field(line, place as usize - 1)), place)
+    at(number(field_at(line, place)), place)
 }
 
 // `span`: a number of ticks, or `-`.
@@ -124,7 +132,7 @@ fn server_line(line: &[u8]) -> Result<Line, Wrong>
     ensures { result ≡ server_line line.now }
 {
     counted(line, 4)?;
-    let kind = at(kind(field(line, 1)), 2)?;
+    let kind = at(kind(field_at(line, 2)), 2)?;
     let capacity = number_at(line, 3)?;
     let period = number_at(line, 4)?;
     server(kind, capacity, period)
@@ -216,7 +224,7 @@ pub fn read_line(line: &[u8], n: u32, servers: usize, tasks: usize) -> Result<Li
         ground: Ground::Misplaced,
         place: 0,
     };
-    match word(field(line, 0)).ok_or(misplaced)? {
+    match word(field_at(line, 1)).ok_or(misplaced)? {
         Word::Span => {
             required(n == 1, Ground::Misplaced, 0)?;
             span_line(line)

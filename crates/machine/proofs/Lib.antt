@@ -7,3 +7,4 @@ pub mod WholeRun
 pub mod Examples
 pub mod Grounds
 pub mod Limits
+pub mod Holders

@@ -1,9 +1,9 @@
 -- Each server's first task with waiting work, noted on one walk up the tasks from the last. Assumes nothing.
 use Prim.Native.Nat.{ℕ, zero, suc, ◌+◌, ◌-◌, ◌≤◌, ◌<◌}
-use mathlib.Core.Path.{◌≡◌, refl, sym, ap, ◌∙◌}
+use mathlib.Core.Path.{◌≡◌, refl, ap, ◌∙◌}
 use mathlib.Core.Logic.{◌≢◌}
 use mathlib.Core.List.{List}
-use mathlib.Core.Bool.{Bool, false}
+use mathlib.Core.Bool.{false}
 use native.Mathlib.Omega.{arith}
 use native.Mathlib.Decide.{ℕ_discrete}
 use lib.ListN.{length, get_or, set, length-set, replicate, get_or-replicate}
@@ -12,12 +12,12 @@ use lib.Seq.{get_or-set_same, get_or-set_other}
 use lib.Dec.{ltb}
 use borrow.Author.Tests.{eq-eqb, ne_eqb, lt-ltb, le-ltb}
 use Rattle.basics.specs.Choice.{pick}
-use Rattle.table.specs.Rules.{no_server, no_task}
+use Rattle.table.specs.Rules.{no_task}
 use Rattle.table.specs.declared.Table.{Table}
 use Rattle.machine.specs.declared.State.{State}
 use Rattle.table.specs.Places.{first_of, Obeyed}
 use Rattle.table.proofs.Obeyed.{servers_most, task_server}
-use Rattle.machine.specs.Machine.{waits, may_hold, qualifies}
+use Rattle.machine.specs.Machine.{waits}
 use Rattle.machine.specs.Parts.{Firsts, noted}
 
 -- the walk has come up to place j: what is noted for each server is its first task from there on
@@ -99,8 +99,3 @@ module _ (table : Table) (ok : Obeyed table) (j : ℕ) (z : 0 < j) (h : j ≤ ta
 
 pub noted_starts : (table : Table) (s : State) → Noted table s (replicate 16 0) table.tasks_n
 noted_starts table s = record { long = refl; from = noted_none table s (replicate 16 0) (λ i h. get_or-replicate 16 i 0 0 h) }
-
--- what is asked of a server is whether it qualifies
-pub asked : (table : Table) (s : State) (firsts : List ℕ) (i : ℕ) (b : Bool) → Firsts table s firsts → i < 16
-    → b ≡ may_hold (get_or s.budgets i 0) (get_or table.servers i no_server).kind (get_or firsts i 0) → qualifies table s i ≡ b
-asked table s firsts i b f h e = rw (← f i h) (sym e)

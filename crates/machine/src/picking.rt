@@ -35,12 +35,14 @@ pub fn first_server(state: State, table: Table, firsts: [u32; 16]) -> u32
     requires { Obeyed table × Firsts table state firsts }
     ensures { result ≡ holder_of table state }
 {
-    for i in 0..table.servers_n {
-        if may_hold(state.budgets[i], table.servers[i].kind, firsts[i]) {
-            return (i as u32) + 1;
-        }
-    }
-    0
+    let servers = &table.servers[..table.servers_n];
+    let mut offered = servers.iter().zip(&state.budgets).zip(&firsts);
+    let place = offered.position(|((server, &budget), &first)| may_hold(
+        budget,
+        server.kind,
+        first,
+    ));
+    place.map_or(0, |i| (i as u32) + 1)
 }
 
 // The holder's first task with waiting work, or 0.

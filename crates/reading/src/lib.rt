@@ -82,6 +82,7 @@ fn read_lines(lines: &[u8]) -> Result<Table, Refusal>
     ensures { result ≡ read_lines (split 10 lines.now) no_table 1 }
 {
     let mut table = no_table();
+    // counted by hand: it outlives the loop, as the line after the last
     let mut n: u32 = 1;
     for line in lines.split(|byte| *byte == b'\n') {
         let said = line_behind(&table, n, line)?;

@@ -8,6 +8,7 @@ use native.Mathlib.Decide.{dec_le, dec_lt}
 use mathlib.Core.List.{List}
 use lib.ListN.{length, get_or}
 use lib.Dec.{eqb}
+use Rattle.std.specs.Prelude.{Option, Some, None, MatchOption}
 use Rattle.std.specs.Bool.{MatchBool}
 use Rattle.std.specs.List.{AllWithin, HoldsAt}
 use borrow.Author.Tests.{ne_eqb, eqb-true}
@@ -128,3 +129,21 @@ module _ {A : Type 0} (xs : List A) (d : A) (p : ℕ → Bool) (Yes No : A → T
       go : (b : Bool) → none_of p (length xs) ≡ b → false ≡ b
       go true e = absurd (true≢false (sym (no some.0 some.1 (some.2 d)) ∙ none_at p (length xs) e some.0 some.1))
       go false e = refl
+
+-- the library's search for the first entry that passes, where an entry passes just where its place does
+abbrev pub number_from : Option ℕ → ℕ
+number_from None = 0
+number_from (Some i) = i + 1
+
+module _ {A : Type 0} (xs : List A) (d : A) (p : ℕ → Bool) (Yes No : A → Type 0)
+    (yes : (i : ℕ) → i < length xs → Yes (get_or xs i d) → p i ≡ true) (no : (i : ℕ) → i < length xs → No (get_or xs i d) → p i ≡ false) where
+  pub first_from_position : (r : Option ℕ) → MatchOption r (AllWithin No xs 0 (length xs)) (λ i. (i < length xs) × HoldsAt Yes xs i × AllWithin No xs 0 i) → number_from r ≡ first_of p (length xs) 0
+  first_from_position None none =
+      sym (eqb-true (first_of p (length xs) 0) 0 (none_of_lem p (length xs) (λ i h. no i h (none i d (omega arith) h))))
+  first_from_position (Some i) some =
+      rw (add-one i) (sym (is_first p (length xs) 0 i (record {
+        from = omega arith;
+        below = omega (arith, some.0);
+        passes = yes i some.0 (some.1 d);
+        before = λ u a b. no u (omega (arith, some.0)) (some.2 u d (omega arith) b);
+      })))

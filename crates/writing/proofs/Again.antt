@@ -1,15 +1,15 @@
 -- Reading what was written: line after line, then the whole text. Assumes nothing.
-use Prim.Native.Nat.{ℕ, ◌+◌, ◌-◌, ◌≤◌, ◌<◌}
+use Prim.Native.Nat.{ℕ, ◌+◌, ◌≤◌, ◌<◌}
 use mathlib.Core.Path.{◌≡◌, refl, sym, ap, ap₂, ◌∙◌}
 use mathlib.Core.List.{List, [], ◌∷◌, ◌++◌, append_assoc, append-nil, map}
 use mathlib.Core.Bool.{Bool, true, ◌&&◌}
 use native.Mathlib.Numerals.{add-one}
 use native.Mathlib.Omega.{arith}
-use lib.ListN.{length, take, length-set, length-append}
-use lib.Seq.{take-suc-set, length-take-le, get_or-append_seam}
+use lib.ListN.{length, take, length-set}
+use lib.Seq.{take-suc-set, length-take-le}
 use lib.Dec.{ltb}
 use borrow.Author.Tests.{lt-ltb, le-leb, ne_eqb}
-use Rattle.std.specs.Prelude.{Result}
+use Rattle.std.specs.Prelude.{Result, Ok}
 use Rattle.basics.proofs.Tests.{and_left, and_right}
 use Rattle.refusals.specs.declared.Refusal.{Refusal}
 use Rattle.table.specs.Rules.{all, server_obeys, task_obeys, servers_of, tasks_of}
@@ -22,8 +22,10 @@ use Rattle.table.specs.declared.Table.{Table}
 use Rattle.fields.specs.Fields.{lines_of}
 use Rattle.lines.specs.Lines.{line_of}
 use Rattle.reading.specs.Reading.{no_table, accepted, with_span, with_server, with_task, ended_of, after_line, read_lines, ends_with_feed, reading_of}
+use Rattle.reading.proofs.Feeds.{feed_last}
 use Rattle.lines.specs.declared.Line.{Line}
 use Rattle.lines.specs.declared.Line.TheVariants.{SpanIs, ServerIs, TaskIs}
+use Rattle.lines.specs.declared.Wrong.{Wrong}
 use Rattle.writing.specs.Text.{ended, span_fields, server_fields, task_fields, span_line, server_line, task_line, lines_in, text_of}
 use Rattle.writing.proofs.Parted.{without, line_without, lines_back}
 use Rattle.writing.proofs.Spoken.{picks_first, picks_second, span_clear, server_clear, task_clear, span_read, server_read, task_read}
@@ -130,7 +132,7 @@ tasked t (k ∷ ks) h = more (tasked (with_task t k) ks (omega (arith, length-se
 
 -- ---- line after line
 
-after : (line said : Line) (t : Table) (n : ℕ) (next : Table → Result Table Refusal) (r : Result Table Refusal) → line ≡ said → after_line said t n next ≡ r → after_line line t n next ≡ r
+after : (line said : Result Line Wrong) (t : Table) (n : ℕ) (next : Table → Result Table Refusal) (r : Result Table Refusal) → line ≡ said → after_line said t n next ≡ r → after_line line t n next ≡ r
 after line said t n next r e h = rw e h
 
 read_servers : (ss : List Server) (rest : List (List ℕ)) (t : Table) (n : ℕ) → t.tasks_n ≡ 0 → 1 < n → t.servers_n + length ss ≤ 16
@@ -140,10 +142,10 @@ read_servers [] rest t n z k h a = ap (read_lines rest t) (omega arith)
 read_servers (s ∷ ss) rest t n z k h a =
     let line = server_line s in
     let ls = map server_line ss ++ rest in
-    let spoken : line_of n t.servers_n t.tasks_n line ≡ ServerIs s =
+    let spoken : line_of n t.servers_n t.tasks_n line ≡ Ok (ServerIs s) =
     ap (λ (m : ℕ). line_of n t.servers_n m line) z
     ∙ server_read s n t.servers_n k (omega arith) (and_left (server_obeys s) (all server_obeys ss) a) in
-    after (line_of n t.servers_n t.tasks_n line) (ServerIs s) t n (λ u. read_lines ls u (n + 1)) _ spoken
+    after (line_of n t.servers_n t.tasks_n line) (Ok (ServerIs s)) t n (λ u. read_lines ls u (n + 1)) _ spoken
     (read_servers ss rest (with_server t s) (n + 1) z (omega arith) (omega arith) (and_right (server_obeys s) (all server_obeys ss) a)
     ∙ ap (read_lines rest (with_servers (with_server t s) ss)) (omega arith))
 
@@ -154,19 +156,13 @@ read_tasks [] t n z k h a = ap (ended_of t) (omega arith)
 read_tasks (x ∷ ks) t n z k h a =
     let line = task_line x in
     let test = task_obeys t.servers_n in
-    let spoken : line_of n t.servers_n t.tasks_n line ≡ TaskIs x =
+    let spoken : line_of n t.servers_n t.tasks_n line ≡ Ok (TaskIs x) =
     task_read n t.servers_n t.tasks_n z k (omega arith) x (and_left (test x) (all test ks) a) in
-    after (line_of n t.servers_n t.tasks_n line) (TaskIs x) t n (λ u. read_lines (map task_line ks) u (n + 1)) _ spoken
+    after (line_of n t.servers_n t.tasks_n line) (Ok (TaskIs x)) t n (λ u. read_lines (map task_line ks) u (n + 1)) _ spoken
     (read_tasks ks (with_task t x) (n + 1) z k (omega arith) (and_right (test x) (all test ks) a)
     ∙ ap (ended_of (with_tasks (with_task t x) ks)) (omega arith))
 
 -- ---- the text ends with a line feed
-
-feed_last : (f : List ℕ) → ends_with_feed (f ++ (10 ∷ [])) ≡ true
-feed_last f =
-    let e : length (f ++ (10 ∷ [])) ≡ length f + 1 = length-append f (10 ∷ []) in
-    let m : length f + 1 - 1 ≡ length f = omega arith in
-    rw (e, m, get_or-append_seam f 10 [] 0, lt-ltb 0 (length f + 1) (omega arith))
 
 ended_feeds : (l : List ℕ) (ls : List (List ℕ)) → (f : List ℕ) × (ended (l ∷ ls) ≡ f ++ (10 ∷ []))
 unfolding ended
@@ -241,7 +237,7 @@ module _ (table : Table) (o : Obeyed table) where
       let c = manned_count in
       let h : all (task_obeys t.servers_n) ks ≡ true = ap (λ (n : ℕ). all (task_obeys n) ks) c ∙ rules.each_task in
       let g = again_same in
-      after _ (SpanIs table.span) no_table 1 _ _ (span_read table.span 0 0 rules.span)
+      after _ (Ok (SpanIs table.span)) no_table 1 _ _ (span_read table.span 0 0 rules.span)
       (read_servers ss (map task_line ks) (spanned table) 2 refl (omega arith) (omega (arith, servers_count, few)) rules.each_server
       ∙ read_tasks ks t (2 + length ss) (omega (arith, c, rules.some_server)) (omega (arith, c, few))
       (omega (arith, with_servers_lem.tasks_n, tasks_count, many)) h

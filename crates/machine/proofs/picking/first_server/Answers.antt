@@ -1,18 +1,18 @@
-use Rattle.std.proofs.Common.{arith, sym, ◌∙◌, ◌<◌}
-use Rattle.table.proofs.Obeyed.{servers_most}
-use Rattle.table.proofs.Places.{walk_finds, walk_goes_on, walk_ends}
-use Rattle.machine.proofs.Noting.{asked}
+-- The place that the search finds is the holder's.
+use Rattle.std.proofs.Common.{rules, ◌∙◌, ◌≡◌, true, false}
+use Rattle.std.proofs.lemmas.Iterator.{YieldsList-from_slice, YieldsList-from_zip, IsFirst-from_position}
+use Rattle.std.proofs.lemmas.Iterator.Consumers.{YieldsList-at}
+use Rattle.table.specs.Rules.{servers_of}
+use Rattle.table.proofs.Places.{number_from}
+use Rattle.machine.proofs.Holders.{holds_it, server_found}
 use Rattle.machine.proofs.picking.first_server.Goals as goal
 
-pub returns-then-may_hold : goal.returns-then-may_hold
-returns-then-may_hold c =
-    let small : c.loop-i.i < 16 = omega (arith, servers_most c.args.table c.requires.0) in
-    sym (walk_finds c.loop-i.invariant c.loop-i-test.true (asked c.args.table c.args.state c.args.firsts c.loop-i.i _ c.requires.1 small c.may_hold.ensures ∙ c.if-may_hold.true))
-
-pub loop-i-preserved : goal.loop-i-preserved
-loop-i-preserved c =
-    let small : c.loop-i.i < 16 = omega (arith, servers_most c.args.table c.requires.0) in
-    walk_goes_on c.loop-i.invariant c.loop-i-test.true (asked c.args.table c.args.state c.args.firsts c.loop-i.i _ c.requires.1 small c.may_hold.ensures ∙ c.if-may_hold.false)
-
 pub returns : goal.returns
-returns c = sym (walk_ends c.loop-i.invariant c.loop-i-test.false)
+returns c =
+    let number : c.map_or.result ≡ number_from c.position-place.result = search rules in
+    number ∙ server_found c.args.table c.args.state c.args.firsts c.requires.0 c.requires.1 (search rules) (search rules) c.position-place.result
+    (IsFirst-from_position c.position-place.new.self _ _ (λ o. holds_it o ≡ true) (λ o. holds_it o ≡ false) c.position-place.ensures.ran
+    (YieldsList-from_zip
+    (YieldsList-at c.zip-offered.ensures.first (YieldsList-from_zip (YieldsList-at c.zip.ensures.first (YieldsList-from_slice (servers_of c.args.table) (search rules))) (YieldsList-from_slice c.args.state.budgets c.zip.ensures.second.0)))
+    (YieldsList-from_slice c.args.firsts c.zip-offered.ensures.second.0))
+    (λ x q k. search rules) (λ x q k. search rules))

@@ -1,0 +1,26 @@
+-- By the first window of the demand that is still to come.
+use Rattle.std.proofs.Common.{refl, arith}
+use Rattle.fitting.proofs.Stretches.{stretching_first, stretching_rises, stretching_gap, stretching_over, stretching_whole, stretching_end}
+use Rattle.fitting.proofs.Fitting.stretch.Goals as goal
+
+pub loop-served-init : goal.loop-served-init
+loop-served-init c = stretching_first c.requires refl refl refl
+
+pub overflow_sub-length : goal.overflow_sub-length
+overflow_sub-length c = omega (arith, stretching_rises c.loop-served.invariant c.in-len2-up.len_at_least, c.max-start.ensures)
+
+pub returns-then-served-start : goal.returns-then-served-start
+returns-then-served-start c = stretching_gap c.loop-served.invariant c.in-len2-up.len_at_least (rw c.max-start.ensures at c.if-served-start.true)
+
+pub returns-then-end-served : goal.returns-then-end-served
+returns-then-end-served c =
+    let start = c.max-start.ensures in
+    stretching_over c.loop-served.invariant c.in-len2-up.len_at_least (rw start at c.if-served-start.false) (rw start at c.if-end-served.true) refl (rw start) refl
+
+pub loop-served-preserved : goal.loop-served-preserved
+loop-served-preserved c =
+    let start = c.max-start.ensures in
+    stretching_whole c.loop-served.invariant c.in-len2-up.len_at_least (rw start at c.if-served-start.false) (rw start at c.if-end-served.false) refl refl (rw start)
+
+pub returns : goal.returns
+returns c = stretching_end c.loop-served.invariant c.in_default.len_below
