@@ -1,9 +1,10 @@
 -- What each exported call promises: its number, or its refusal (number, line and place) where it hands one out, and everything that is handed out or lent
 -- as it is left. A value with a prime stands for afterwards.
-use Rattle.std.specs.Prelude.{ℕ, ◌≡◌, List}
+use Rattle.std.specs.Prelude.{ℕ, ◌≡◌, List, Result, is_ok}
 use Rattle.windows.specs.Windows.{add_up, cut_at, fit}
-use Rattle.curves.specs.Refusals.{Lengths, add_outcome, cut_outcome, fit_outcome, provide_outcome}
-use Rattle.refusals.specs.Outcomes.{Outcome, lent}
+use Rattle.fitting.specs.declared.Counts.{Counts}
+use Rattle.curves.specs.Refusals.{add_outcome, cut_outcome, fit_outcome, provide_outcome}
+use Rattle.refusals.specs.Outcomes.{lent}
 use Rattle.refusals.specs.declared.Refusal.{Refusal}
 use Rattle.table.specs.declared.Table.{Table}
 use Rattle.entries.specs.Entries.{table_from}
@@ -17,13 +18,13 @@ use Rattle.scheduling.specs.Buffers.{Buffers}
 use Rattle.scheduling.specs.Asking.{who_of}
 use Rattle.scheduling.specs.Analysing.{analysis_of}
 use Rattle.reporting.specs.Reporting.{report_for, report_outcome}
-use Rattle.handing_tables.specs.Tables.{Counted, HandsReading, step_for, HandsStep, unplaced}
-use Rattle.handing.specs.Handing.{number_in, handed, instant_or0, HandsWho, Listed, HandsAnalysis}
+use Rattle.handing_tables.specs.Tables.{number_in, handed, Counted, HandsReading, step_for, HandsStep, unplaced}
+use Rattle.handing.specs.Handing.{instant_or0, HandsWho, Listed, HandsAnalysis}
 
 -- ---- the calls that write one result
 
 -- by the outcome, the result and the buffer: the number, how much is written, and the buffer afterwards
-pub record Wrote (outcome : Outcome ℕ) (result old : List ℕ) (count r count' : ℕ) (after : List ℕ) : Type 0 where
+pub record Wrote (outcome : Result ℕ Refusal) (result old : List ℕ) (count r count' : ℕ) (after : List ℕ) : Type 0 where
   pub number : r ≡ number_in outcome
   pub counted : count' ≡ handed (λ n. n) outcome count
   pub buffer : after ≡ lent outcome result old
@@ -48,9 +49,9 @@ Writes n servers tasks out = Wrote (write_outcome (table_of n servers tasks) out
 
 pub record Fits (demand supply left served rest : List ℕ) (l s d r l' s' d' : ℕ) (left' served' rest' : List ℕ) : Type 0 where
   pub number : r ≡ number_in (fit_outcome demand supply left served rest)
-  pub left_count : l' ≡ handed (λ (n : Lengths). n.left) (fit_outcome demand supply left served rest) l
-  pub served_count : s' ≡ handed (λ (n : Lengths). n.served) (fit_outcome demand supply left served rest) s
-  pub rest_count : d' ≡ handed (λ (n : Lengths). n.rest) (fit_outcome demand supply left served rest) d
+  pub left_count : l' ≡ handed (λ (n : Counts). n.left) (fit_outcome demand supply left served rest) l
+  pub served_count : s' ≡ handed (λ (n : Counts). n.served) (fit_outcome demand supply left served rest) s
+  pub rest_count : d' ≡ handed (λ (n : Counts). n.rest) (fit_outcome demand supply left served rest) d
   pub left_buffer : left' ≡ lent (fit_outcome demand supply left served rest) (fit demand supply).left left
   pub served_buffer : served' ≡ lent (fit_outcome demand supply left served rest) (fit demand supply).served served
   pub rest_buffer : rest' ≡ lent (fit_outcome demand supply left served rest) (fit demand supply).rest rest
@@ -67,11 +68,11 @@ Reads text = HandsReading (reading_of text)
 
 -- of a text and a state: "a refused step also hands back the state it got, with 0 for server and task"
 abbrev pub Steps : (text : List ℕ) (before : State) (refusal : Refusal) (after : State) (holder' runner' : ℕ) → Type 0
-Steps text before = HandsStep (step_for (reading_of text) before)
+Steps text before = HandsStep (step_for (reading_of text) before) before
 
 -- the same of a table that is given by its rows: no text is read, so that there is no line and no place
 abbrev pub StepsTable : (n : Counted) (servers tasks : List ℕ) (before : State) (r : ℕ) (after : State) (holder' runner' : ℕ) → Type 0
-StepsTable n servers tasks before r = HandsStep (step_of (table_of n servers tasks) before) (unplaced r)
+StepsTable n servers tasks before r = HandsStep (step_of (table_of n servers tasks) before) before (unplaced r)
 
 -- ---- the calls on a text and six work buffers
 
@@ -79,9 +80,9 @@ StepsTable n servers tasks before r = HandsStep (step_of (table_of n servers tas
 pub record Tells (text : List ℕ) (tick : ℕ) (a b c d e f : List ℕ) (holder runner : ℕ) (refusal : Refusal) (holder' runner' : ℕ)
     (a' b' c' d' e' f' : List ℕ) : Type 0 where
   pub who : HandsWho (who_of text tick (roomy a b c d e f)) holder runner refusal holder' runner'
-  pub buffers : Buffers refusal.number a b c d e f a' b' c' d' e' f'
+  pub buffers : Buffers (is_ok (who_of text tick (roomy a b c d e f))) a b c d e f a' b' c' d' e' f'
 
 pub record Analyses (text : List ℕ) (a b c d e f : List ℕ) (n : Counted) (l : Listed) (refusal : Refusal) (n' : Counted) (l' : Listed)
     (a' b' c' d' e' f' : List ℕ) : Type 0 where
   pub answers : HandsAnalysis (analysis_of text (roomy a b c d e f)) n l refusal n' l'
-  pub buffers : Buffers refusal.number a b c d e f a' b' c' d' e' f'
+  pub buffers : Buffers (is_ok (analysis_of text (roomy a b c d e f))) a b c d e f a' b' c' d' e' f'

@@ -6,7 +6,7 @@ ghost use Rattle.grodvejas.specs.Calls.{Adds, Cuts, Fits, Provides, Reads, Write
 
 use entries::table_from;
 use handing::answered::{hand_analysis, hand_who};
-use handing::outcomes::{hand_count, hand_counts, hand_instant};
+use handing::outcomes::{hand, hand_counts, hand_instant};
 use handing_tables::{hand_reading, hand_step, step_table};
 
 // Adds up two curves into a buffer, and hands out how many numbers were written.
@@ -14,8 +14,7 @@ use handing_tables::{hand_reading, hand_step, step_table};
 pub extern "C" fn grod_add(a: &[u32], b: &[u32], out: &mut [u32], count: &mut usize) -> u32
     ensures { Adds a.now b.now out.old count.old result count.new out.new }
 {
-    let written = curves::add(a, b, out);
-    hand_count(written, count)
+    hand(curves::add(a, b, out), count)
 }
 
 // Cuts a curve at the multiples of a period into a buffer, and hands out how many numbers were written.
@@ -23,8 +22,7 @@ pub extern "C" fn grod_add(a: &[u32], b: &[u32], out: &mut [u32], count: &mut us
 pub extern "C" fn grod_cut(curve: &[u32], period: u32, out: &mut [u32], count: &mut usize) -> u32
     ensures { Cuts curve.now period out.old count.old result count.new out.new }
 {
-    let written = curves::cut(curve, period, out);
-    hand_count(written, count)
+    hand(curves::cut(curve, period, out), count)
 }
 
 // Fits a demand into a supply, and hands out how many numbers of supply left, served and demand left were written.
@@ -52,8 +50,7 @@ pub extern "C" fn grod_fit(
 pub extern "C" fn grod_time_to_provide(curve: &[u32], amount: u32, instant: &mut u32) -> u32
     ensures { Provides curve.now amount instant.old result instant.new }
 {
-    let provided = curves::time_to_provide(curve, amount);
-    hand_instant(provided, instant)
+    hand_instant(curves::time_to_provide(curve, amount), instant)
 }
 
 // Reads a table's text, and hands out its span, how many servers and tasks it has, and a row of numbers for each: of the arrays the rows within the
@@ -92,8 +89,7 @@ pub extern "C" fn grod_write(
         count.old result count.new out.new }
 {
     let table = table_from(span, servers_n, tasks_n, servers, tasks);
-    let written = writing::write(table, out);
-    hand_count(written, count)
+    hand(writing::write(table, out), count)
 }
 
 // Goes one tick on with the machine of a text's table: the state is handed in and out, and who holds the tick and who runs in it is handed out. A refused
@@ -160,8 +156,8 @@ pub extern "C" fn grod_who_at(
         holder.new runner.new free.new sum.new part.new held.new running.new
         spare.new }
 {
-    let who = scheduling::who_at(text, tick, free, sum, part, held, running, spare);
-    hand_who(who, line, place, holder, runner)
+    let told = scheduling::who_at(text, tick, free, sum, part, held, running, spare);
+    hand_who(told, line, place, holder, runner)
 }
 
 // Hands out the answers of all servers and tasks of a text's table, a row of numbers for each: of the arrays the rows within the counts, and no others.
@@ -191,9 +187,9 @@ pub extern "C" fn grod_analyse(
         (record { servers = servers.new; tasks = tasks.new; margin = margin.new }) free.new
         sum.new part.new held.new running.new spare.new }
 {
-    let analysis = scheduling::analyse(text, free, sum, part, held, running, spare);
+    let analysed = scheduling::analyse(text, free, sum, part, held, running, spare);
     hand_analysis(
-        analysis, line, place, span, servers_n, tasks_n, servers, tasks, margin,
+        analysed, line, place, span, servers_n, tasks_n, servers, tasks, margin,
     )
 }
 
@@ -202,6 +198,5 @@ pub extern "C" fn grod_analyse(
 pub extern "C" fn grod_report(text: &[u8], out: &mut [u8], count: &mut usize) -> u32
     ensures { Reports text.now out.old count.old result count.new out.new }
 {
-    let written = reporting::report(text, out);
-    hand_count(written, count)
+    hand(reporting::report(text, out), count)
 }

@@ -1,6 +1,6 @@
 -- What a caller in C gets of the curve calls, of the report and of an analysis: 0, or the number of the refusal, and numbers through pointers.
-use Rattle.std.specs.Prelude.{ℕ, ◌≡◌, List, [], ◌∷◌, ◌++◌, ℤ, pos, take, drop, Option, Some, None}
-use Rattle.refusals.specs.Outcomes.{Outcome, refused, answer, front}
+use Rattle.std.specs.Prelude.{ℕ, ◌≡◌, List, [], ◌∷◌, ◌++◌, ℤ, pos, take, drop, Option, Some, None, Result}
+use Rattle.refusals.specs.Outcomes.{front}
 use Rattle.refusals.specs.declared.Refusal.{Refusal}
 use Rattle.entries.specs.Entries.{rows}
 use Rattle.answers.specs.declared.Analysis.{Analysis}
@@ -8,18 +8,9 @@ use Rattle.answers.specs.declared.Response.{Response}
 use Rattle.answers.specs.declared.Response.TheVariants as response
 use Rattle.answers.specs.declared.ServerAnswer.{ServerAnswer}
 use Rattle.scheduling.specs.declared.Who.{Who}
-use Rattle.handing_tables.specs.Tables.{given, Counted}
+use Rattle.handing_tables.specs.Tables.{refusal_in, handed, Counted}
 
--- ---- curve calls and the report
-
-abbrev pub number_in : {A : Type 0} → Outcome A → ℕ
-number_in (answer x) = 0
-number_in (refused refusal) = refusal.number
-
--- what an outcome hands out, or what was there before
-abbrev pub handed : {A B : Type 0} → (A → B) → Outcome A → B → B
-handed f (answer x) old = f x
-handed f (refused refusal) old = old
+-- ---- curve calls
 
 -- an instant; 0 for not provided: no amount above 0 is provided at 0
 abbrev pub instant_or0 : Option ℕ → ℕ
@@ -29,10 +20,10 @@ instant_or0 None = 0
 -- ---- who holds a tick
 
 -- by what is told of the tick
-pub record HandsWho (who : Who) (holder runner : ℕ) (refusal : Refusal) (holder' runner' : ℕ) : Type 0 where
-  pub refusal_is : refusal ≡ who.refusal
-  pub holds : holder' ≡ given refusal.number who.holder holder
-  pub runs : runner' ≡ given refusal.number who.runner runner
+pub record HandsWho (told : Result Who Refusal) (holder runner : ℕ) (refusal : Refusal) (holder' runner' : ℕ) : Type 0 where
+  pub refusal_is : refusal ≡ refusal_in told
+  pub holds : holder' ≡ handed (λ (who : Who). who.holder) told holder
+  pub runs : runner' ≡ handed (λ (who : Who). who.runner) told runner
 
 -- ---- answers as numbers
 
@@ -100,11 +91,11 @@ pub record Listed : Type 0 where
   pub margin : List ℤ
 
 -- by an analysis: of each array the rows within the count are handed out, and the rest is as it was
-pub record HandsAnalysis (a : Analysis) (n : Counted) (l : Listed) (refusal : Refusal) (n' : Counted) (l' : Listed) : Type 0 where
-  pub refusal_is : refusal ≡ a.refusal
-  pub ticks : n'.span ≡ given refusal.number a.span n.span
-  pub servers_count : n'.servers ≡ given refusal.number a.servers_n n.servers
-  pub tasks_count : n'.tasks ≡ given refusal.number a.tasks_n n.tasks
-  pub servers_are : l'.servers ≡ given refusal.number (server_answers a.servers_n a.servers l.servers) l.servers
-  pub tasks_are : l'.tasks ≡ given refusal.number (task_answers a.tasks_n a.tasks l.tasks) l.tasks
-  pub margins_are : l'.margin ≡ given refusal.number (margins a.tasks_n a.tasks l.margin) l.margin
+pub record HandsAnalysis (analysed : Result Analysis Refusal) (n : Counted) (l : Listed) (refusal : Refusal) (n' : Counted) (l' : Listed) : Type 0 where
+  pub refusal_is : refusal ≡ refusal_in analysed
+  pub ticks : n'.span ≡ handed (λ (a : Analysis). a.span) analysed n.span
+  pub servers_count : n'.servers ≡ handed (λ (a : Analysis). a.servers_n) analysed n.servers
+  pub tasks_count : n'.tasks ≡ handed (λ (a : Analysis). a.tasks_n) analysed n.tasks
+  pub servers_are : l'.servers ≡ handed (λ (a : Analysis). server_answers a.servers_n a.servers l.servers) analysed l.servers
+  pub tasks_are : l'.tasks ≡ handed (λ (a : Analysis). task_answers a.tasks_n a.tasks l.tasks) analysed l.tasks
+  pub margins_are : l'.margin ≡ handed (λ (a : Analysis). margins a.tasks_n a.tasks l.margin) analysed l.margin

@@ -1,38 +1,45 @@
 // What the calls for C on a table hand out, through places to write to: line and place of a refusal, what is read of a text, a step of the machine.
 #![tactic(auto)]
 
-ghost use Rattle.std.specs.Prelude.{◌≡◌, ◌≤◌};
+ghost use Rattle.std.specs.Prelude.{◌≡◌, ◌≤◌, IfOk};
 ghost use Rattle.machine.specs.Machine.{step_of};
-ghost use Rattle.handing_tables.specs.Tables.{refusal_in, HandsReading, step_for, HandsStep, unplaced};
+ghost use Rattle.handing_tables.specs.Tables.{refusal_in, number_in, HandsReading, step_for, HandsStep, unplaced};
 
 use entries::{hand_servers, hand_tasks};
-use machine::State;
-use reading::{Answer, Reading};
+use machine::{State, Step};
 use refusals::{Refusal, no_refusal};
 use table::Table;
 
-// Hands out line and place of a refusal, and answers its number.
-pub fn hand_refusal(refusal: Refusal, line: &mut u32, place: &mut u32) -> u32
-    ensures { record { number = result; line = line.new; place = place.new } ≡ refusal }
+// The refusal of a call, or that there is none.
+fn refusal_in<T>(outcome: &Result<T, Refusal>) -> Refusal
+    ensures { result ≡ refusal_in outcome.now }
 {
+    match outcome {
+        Ok(_) => no_refusal(),
+        Err(refusal) => *refusal,
+    }
+}
+
+// The number of a refusal; 0 where there is none.
+pub fn number_in<T>(outcome: &Result<T, Refusal>) -> u32
+    ensures { result ≡ number_in outcome.now }
+{
+    refusal_in(outcome).number
+}
+
+// Hands out line and place of a refusal, and answers its number; all are 0 where there is none.
+pub fn hand_refusal<T>(outcome: &Result<T, Refusal>, line: &mut u32, place: &mut u32) -> u32
+    ensures { record { number = result; line = line.new; place = place.new } ≡ refusal_in outcome.now }
+{
+    let refusal = refusal_in(outcome);
     *line = refusal.line;
     *place = refusal.place;
     refusal.number
 }
 
-// The refusal that reading answers.
-fn refusal_in(answer: Answer) -> Refusal
-    ensures { result ≡ refusal_in answer }
-{
-    match answer {
-        Answer::Accepted => no_refusal(),
-        Answer::Refused(refusal) => refusal,
-    }
-}
-
 // Hands out what is read of a text: of the arrays the rows of the servers and tasks that there are, and no others.
 pub fn hand_reading(
-    read: Reading,
+    read: Result<Table, Refusal>,
     line: &mut u32,
     place: &mut u32,
     span: &mut u32,
@@ -41,28 +48,56 @@ pub fn hand_reading(
     servers: &mut [u32; 48],
     tasks: &mut [u32; 384],
 ) -> u32
-    requires { (read.table.servers_n ≤ 16) × (read.table.tasks_n ≤ 64) }
+    requires { IfOk read (λ table. (table.servers_n ≤ 16) × (table.tasks_n ≤ 64)) }
     ensures { HandsReading read (record { span = span.old; servers = servers_n.old; tasks = tasks_n.old })
         servers.old tasks.old (record { number = result; line = line.new; place = place.new })
         (record { span = span.new; servers = servers_n.new; tasks = tasks_n.new }) servers.new tasks.new }
 {
-    let answer = read.answer;
-    let refusal = refusal_in(answer);
-    let number = hand_refusal(refusal, line, place);
-    if number != 0 {
-        return number;
+    if let Ok(table) = read {
+        *span = table.span;
+        *servers_n = table.servers_n;
+        *tasks_n = table.tasks_n;
+        hand_servers(table, servers);
+        hand_tasks(table, tasks);
     }
-    let table = read.table;
-    *span = table.span;
-    *servers_n = table.servers_n;
-    *tasks_n = table.tasks_n;
-    hand_servers(table, servers);
-    hand_tasks(table, tasks);
-    number
+    hand_refusal(&read, line, place)
 }
 
-// Goes one tick on with a table's machine. A refused step has the state it got, and 0 for holder and runner; its refusal has no line and no
-// place.
+// Goes one tick on with the machine of the table, if one was read, and hands out the state, holder and runner. Where no step is done, the state stays
+// as it is, with 0 for holder and runner. State and answer are no structs here: C lends a place for each number and each array.
+fn take_step(
+    read: Result<Table, Refusal>,
+    tick: &mut u32,
+    budgets: &mut [u32; 16],
+    waiting: &mut [u32; 64],
+    holder: &mut u32,
+    runner: &mut u32,
+) -> Result<Step, Refusal>
+    ensures answer { result ≡ step_for read (record { tick = tick.old; budgets = budgets.old; waiting = waiting.old }) }
+    ensures handed { HandsStep result (record { tick = tick.old; budgets = budgets.old; waiting = waiting.old })
+        (refusal_in result) (record { tick = tick.new; budgets = budgets.new; waiting = waiting.new })
+        holder.new runner.new }
+{
+    let before = State {
+        tick: *tick,
+        budgets: *budgets,
+        waiting: *waiting,
+    };
+    let stepped = read.and_then(|table| before.step(table));
+    *holder = 0;
+    *runner = 0;
+    if let Ok(step) = stepped {
+        *tick = step.next.tick;
+        budgets.copy_from_slice(&step.next.budgets);
+        waiting.copy_from_slice(&step.next.waiting);
+        *holder = step.holder;
+        *runner = step.runner;
+    }
+    stepped
+}
+
+// Goes one tick on with a table's machine. No text is read, so that a refusal has no line and no place.
+#[tactic(auto, using(crate::proofs::Given::step_unplaced))]
 pub fn step_table(
     table: Table,
     tick: &mut u32,
@@ -72,51 +107,17 @@ pub fn step_table(
     runner: &mut u32,
 ) -> u32
     ensures { HandsStep (step_of table (record { tick = tick.old; budgets = budgets.old; waiting = waiting.old }))
+        (record { tick = tick.old; budgets = budgets.old; waiting = waiting.old })
         (unplaced result) (record { tick = tick.new; budgets = budgets.new; waiting = waiting.new })
         holder.new runner.new }
 {
-    let old_budgets = *budgets;
-    let old_waiting = *waiting;
-    let state = State {
-        tick: *tick,
-        budgets: old_budgets,
-        waiting: old_waiting,
-    };
-    let stepped = state.step(table);
-    let refused = stepped.refusal;
-    *holder = stepped.holder;
-    *runner = stepped.runner;
-    if refused.number != 0 {
-        return refused.number;
-    }
-    let next = stepped.next;
-    *tick = next.tick;
-    let new_budgets = next.budgets;
-    let new_waiting = next.waiting;
-    *budgets = new_budgets;
-    *waiting = new_waiting;
-    0
-}
-
-// Hands out that no step was done: line and place of the refusal, and 0 for holder and runner. Answers the refusal's number.
-fn hand_no_step(
-    refusal: Refusal,
-    line: &mut u32,
-    place: &mut u32,
-    holder: &mut u32,
-    runner: &mut u32,
-) -> u32
-    ensures { (record { number = result; line = line.new; place = place.new } ≡ refusal) × (holder.new ≡ 0)
-        × (runner.new ≡ 0) }
-{
-    *holder = 0;
-    *runner = 0;
-    hand_refusal(refusal, line, place)
+    let stepped = take_step(Ok(table), tick, budgets, waiting, holder, runner);
+    number_in(&stepped)
 }
 
 // Goes one tick on with the machine of the table that is read of a text. Where the text is refused, no step is done.
 pub fn hand_step(
-    read: Reading,
+    read: Result<Table, Refusal>,
     tick: &mut u32,
     budgets: &mut [u32; 16],
     waiting: &mut [u32; 64],
@@ -126,17 +127,10 @@ pub fn hand_step(
     runner: &mut u32,
 ) -> u32
     ensures { HandsStep (step_for read (record { tick = tick.old; budgets = budgets.old; waiting = waiting.old }))
+        (record { tick = tick.old; budgets = budgets.old; waiting = waiting.old })
         (record { number = result; line = line.new; place = place.new })
         (record { tick = tick.new; budgets = budgets.new; waiting = waiting.new }) holder.new runner.new }
 {
-    let answer = read.answer;
-    let table = read.table;
-    match answer {
-        Answer::Accepted => {
-            *line = 0;
-            *place = 0;
-            step_table(table, tick, budgets, waiting, holder, runner)
-        }
-        Answer::Refused(refusal) => hand_no_step(refusal, line, place, holder, runner),
-    }
+    let stepped = take_step(read, tick, budgets, waiting, holder, runner);
+    hand_refusal(&stepped, line, place)
 }

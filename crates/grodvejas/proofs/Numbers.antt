@@ -1,0 +1,107 @@
+-- A caller in C tells an accepted call by its number: it is 0 where the call is accepted, and nowhere else. Assumes nothing.
+use Prim.Native.Nat.{ℕ, ◌<◌}
+use mathlib.Core.Path.{◌≡◌, refl, sym, ap, subst, ◌∙◌}
+use mathlib.Core.List.{List}
+use mathlib.Core.Bool.{Bool, true, false}
+use native.Mathlib.Omega.{arith}
+use lib.Dec.{leb, eqb}
+use borrow.Author.Tests.{ne_eqb}
+use Rattle.std.specs.Prelude.{Result, Ok, Err, IfErr, is_ok}
+use Rattle.basics.specs.Choice.{pick}
+use Rattle.refusals.specs.Refusals.{refused_for}
+use Rattle.refusals.specs.declared.Ground.{Ground}
+use Rattle.refusals.specs.declared.Ground.TheVariants.{WorkRoom, OutOfStep}
+use Rattle.refusals.specs.declared.Refusal.{Refusal}
+use Rattle.refusals.proofs.Numbers.{number_some}
+use Rattle.table.specs.declared.Table.{Table}
+use Rattle.reading.specs.Reading.{reading_of}
+use Rattle.reading.proofs.TurnedAway.{turned_away}
+use Rattle.machine.specs.Machine.{accepts, stepped, refusal, step_of}
+use Rattle.machine.specs.declared.State.{State}
+use Rattle.opening.specs.Opening.{answer_by, roomy}
+use Rattle.scheduling.specs.Buffers.{Buffers}
+use Rattle.scheduling.specs.Asking.{at_tick, who_of}
+use Rattle.scheduling.specs.Analysing.{analysed, analysis_of}
+use Rattle.handing_tables.specs.Tables.{number_in, step_for, Counted}
+use Rattle.handing_tables.proofs.Given.{same_number}
+use Rattle.handing.specs.Handing.{Listed}
+use Rattle.grodvejas.specs.Calls.{Tells, Analyses}
+
+-- ---- an outcome whose refusal has a number above 0
+
+abbrev pub Numbered : {A : Type 0} → Result A Refusal → Type 0
+Numbered r = IfErr r (λ (refusal : Refusal). 0 < refusal.number)
+
+module _ {A : Type 0} where
+  pub zero_accepted : (r : Result A Refusal) → Numbered r → number_in r ≡ 0 → (a : A) × (r ≡ Ok a)
+  zero_accepted (Ok a) h e = (a, refl)
+  zero_accepted (Err refusal) h e = absurd (omega (arith, h, e))
+
+  pub accepted_by_number : (r : Result A Refusal) → Numbered r → is_ok r ≡ eqb (number_in r) 0
+  accepted_by_number (Ok a) h = refl
+  accepted_by_number (Err refusal) h = sym (ne_eqb refusal.number 0 (λ e. absurd (omega (arith, h, e))))
+
+-- ---- each call on a text or a table has such an outcome
+
+pub reading_numbered : (text : List ℕ) → Numbered (reading_of text)
+reading_numbered text = go (reading_of text) refl
+  where
+    go : (read : Result Table Refusal) → reading_of text ≡ read → Numbered read
+    go (Ok table) e = tt
+    go (Err refusal) e = (turned_away text refusal e).number
+
+pub step_numbered : (table : Table) (before : State) → Numbered (step_of table before)
+unfolding step_of
+step_numbered table before = go (accepts table before)
+  where
+    go : (b : Bool) → Numbered (pick b (Ok (stepped table before)) (Err refusal))
+    go true = tt
+    go false = number_some OutOfStep
+
+pub step_for_numbered : (text : List ℕ) (before : State) → Numbered (step_for (reading_of text) before)
+step_for_numbered text before = go (reading_of text) (reading_numbered text)
+  where
+    go : (read : Result Table Refusal) → Numbered read → Numbered (step_for read before)
+    go (Ok table) h = step_numbered table before
+    go (Err refusal) h = h
+
+-- what is answered of a table that was read
+answer_numbered : {A : Type 0} (of : Table → Result A Refusal) → ((table : Table) → Numbered (of table)) → (read : Result Table Refusal) → Numbered read
+    → Numbered (answer_by Err of read)
+answer_numbered of told (Ok table) h = told table
+answer_numbered of told (Err refusal) h = h
+
+module _ (text : List ℕ) where
+  pub who_numbered : (tick : ℕ) (room : Bool) → Numbered (who_of text tick room)
+  who_numbered tick false = number_some WorkRoom
+  who_numbered tick true = answer_numbered (λ table. at_tick table tick) at (reading_of text) (reading_numbered text)
+    where
+      at : (table : Table) → Numbered (at_tick table tick)
+      at table = go (leb table.span tick)
+        where
+          go : (b : Bool) → Numbered (pick b (Err (refused_for OutOfStep)) (Ok _))
+          go true = number_some OutOfStep
+          go false = tt
+
+  pub analysis_numbered : (room : Bool) → Numbered (analysis_of text room)
+  analysis_numbered false = number_some WorkRoom
+  analysis_numbered true = answer_numbered (λ table. Ok (analysed table)) (λ table. tt) (reading_of text) (reading_numbered text)
+
+-- ---- the six work buffers, by the number that is handed out
+
+module _ (text a b c d e f : List ℕ) {refusal : Refusal} {a' b' c' d' e' f' : List ℕ} where
+  abbrev by_number : Type 0
+  by_number = Buffers (eqb refusal.number 0) a b c d e f a' b' c' d' e' f'
+
+  told_by_number : {A : Type 0} (r : Result A Refusal) → Numbered r → refusal.number ≡ number_in r → Buffers (is_ok r) a b c d e f a' b' c' d' e' f' → by_number
+  told_by_number r h p w =
+      subst (λ (accepted : Bool). Buffers accepted a b c d e f a' b' c' d' e' f') (accepted_by_number r h ∙ ap (λ (n : ℕ). eqb n 0) (sym p)) w
+
+  pub tells_by_number : (tick holder runner : ℕ) {holder' runner' : ℕ}
+      → Tells text tick a b c d e f holder runner refusal holder' runner' a' b' c' d' e' f' → by_number
+  tells_by_number tick holder runner p =
+      told_by_number (who_of text tick (roomy a b c d e f)) (who_numbered text tick (roomy a b c d e f)) (same_number p.who.refusal_is) p.buffers
+
+  pub analyses_by_number : (n : Counted) (l : Listed) {n' : Counted} {l' : Listed} → Analyses text a b c d e f n l refusal n' l' a' b' c' d' e' f' → by_number
+  analyses_by_number n l p =
+      told_by_number (analysis_of text (roomy a b c d e f)) (analysis_numbered text (roomy a b c d e f)) (same_number p.answers.refusal_is) p.buffers
