@@ -2,8 +2,10 @@
 // front before more is read. A last line that no line feed ends gets one.
 ghost use Rattle.std.specs.Prelude.{◌≡◌, ◌≤◌, take};
 
-use crate::INPUT;
 use crate::steps::{cut_long, end_last, fill, keep_rest, whole_lines};
+
+// How many bytes of standard input are held at once: of a line of more, its line feed counted, nothing can be read.
+const INPUT: usize = 1_048_576;
 
 // What is held of standard input: so many bytes, of which so many, from the first, are whole lines; and whether no more come.
 #[derive(Drop)]

@@ -1,5 +1,4 @@
-// What programs share that answer standard input line by line: the bytes that wait to be written, the lines of an input of any length, and
-// the numbers and bytes that a line has.
+// What programs share: standard input as one text, or line by line; the bytes that wait to be written; the numbers and bytes that a line has.
 #![tactic(auto)]
 
 pub mod decoding;
@@ -14,12 +13,26 @@ use std::fmt;
 use std::fmt::Write;
 
 // The numbers under which a program reads its standard input and writes its standard output.
-pub const STANDARD_INPUT: i32 = 0;
+const STANDARD_INPUT: i32 = 0;
 
-pub const STANDARD_OUTPUT: i32 = 1;
+const STANDARD_OUTPUT: i32 = 1;
 
-// How many bytes of standard input are held at once: of a line of more, its line feed counted, nothing can be read.
-pub const INPUT: usize = 1_048_576;
+// More bytes than a table's text may have: of a longer input, no more has to be read.
+const TEXT: usize = 5000;
+
+// Writes bytes to standard output. What it does not take is lost.
+pub fn write(bytes: &[u8]) {
+    io::write_all(STANDARD_OUTPUT, bytes);
+}
+
+// Reads standard input as the text of a table, and answers it.
+pub fn answer_text<F: FnOnce(&[u8])>(answer: F)
+    requires { F.IsAlwaysCallable answer }
+{
+    let mut text = [0u8; TEXT];
+    let count = io::read_full(STANDARD_INPUT, &mut text);
+    answer(&text[..count]);
+}
 
 // Puts the answer to a line that asks for nothing.
 pub fn put_bad(out: &mut Output) -> fmt::Result {

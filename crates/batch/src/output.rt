@@ -1,7 +1,7 @@
 // Standard output, written through a room for the bytes that wait.
 ghost use Rattle.std.specs.Prelude.{◌≡◌, ◌≤◌};
 
-use crate::STANDARD_OUTPUT;
+use crate::write;
 use std::fmt;
 
 // How many bytes wait at most.
@@ -24,11 +24,11 @@ impl Output {
         }
     }
 
-    // Writes the bytes that wait. What standard output does not take is lost.
+    // Writes the bytes that wait.
     pub fn flush(&mut self)
         ensures { self.new.waiting ≡ 0 }
     {
-        io::write_all(STANDARD_OUTPUT, &self.room[..self.waiting]);
+        write(&self.room[..self.waiting]);
         self.waiting = 0;
     }
 
