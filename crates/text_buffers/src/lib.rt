@@ -13,6 +13,9 @@ use text_lines::asking::Rooms;
 // How many numbers each array has: a guard of 8 behind the largest lent part.
 const GUARDED: usize = 16_016;
 
+// A lent work buffer.
+type Lent<'a> = &'a mut [u32];
+
 // What a call answered: what an analysis counted, or who holds a tick and who runs in it.
 #[derive(Clone, Copy)]
 enum Said {
@@ -58,6 +61,11 @@ impl fmt::Display for Became {
     }
 }
 
+// An array before a part of it is lent.
+fn fresh() -> [u32; GUARDED] {
+    array::from_fn(|place| 7_000_000 + place as u32)
+}
+
 impl Became {
     // What became of an array, from its lent part and the guard behind it. No number was 0 before.
     fn of(lent: &[u32], guard: &[u32], before: &[u32]) -> Self {
@@ -83,17 +91,21 @@ fn put_said(out: &mut Output, said: Result<Said, Refusal>) -> fmt::Result {
     write!(out, " |")
 }
 
-// Lends a call so many of the first numbers of six arrays, and puts the line of its answer and what became of the arrays.
+// Puts what became of six arrays, of each of which the lent part and the guard are given.
+fn put_became(out: &mut Output, parts: [(&[u32], &[u32]); 6]) -> fmt::Result {
+    let before = fresh();
+    for (lent, guard) in parts {
+        write!(out, " {}", Became::of(lent, guard, &before))?;
+    }
+    writeln!(out, "")
+}
+
+// Lends a call so many of the first numbers of six arrays, and puts the line of its answer and what became of the arrays. These stand in a
+// frame of their own, and not in that of each line's answer.
+#[inline(never)]
 fn put_call<F>(out: &mut Output, rooms: Rooms, call: F) -> fmt::Result
 where
-    F: FnOnce(
-        &mut [u32],
-        &mut [u32],
-        &mut [u32],
-        &mut [u32],
-        &mut [u32],
-        &mut [u32],
-    ) -> Result<Said, Refusal>,
+    F: FnOnce(Lent, Lent, Lent, Lent, Lent, Lent) -> Result<Said, Refusal>,
     requires { F.IsAlwaysCallable call }
 {
     let before: [u32; GUARDED] = array::from_fn(|place| 7_000_000 + place as u32);
@@ -114,17 +126,15 @@ where
         &mut spare[..rooms.spare],
     );
     put_said(out, said)?;
-    for (lent, guard) in [
+    let parts = [
         free.split_at(rooms.free),
         sum.split_at(rooms.sum),
         part.split_at(rooms.part),
         held.split_at(rooms.held),
         running.split_at(rooms.running),
         spare.split_at(rooms.spare),
-    ] {
-        write!(out, " {}", Became::of(lent, guard, &before))?;
-    }
-    writeln!(out, "")
+    ];
+    put_became(out, parts)
 }
 
 // Puts the line of the analysis.

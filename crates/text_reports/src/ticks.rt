@@ -10,7 +10,8 @@ use table::Table;
 // The most ticks that a span has.
 const TICKS: usize = 16_000;
 
-// Who holds a tick, from the curves.
+// Who holds a tick, from the curves. Its buffers stand in a frame of their own, and not in that of each line's answer.
+#[inline(never)]
 fn ask(text: &[u8], tick: u32) -> Result<Who, Refusal> {
     let [
         mut free,
