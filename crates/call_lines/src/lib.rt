@@ -3,7 +3,7 @@
 
 use batch::output::Output;
 use batch::put_bad;
-use refusals::{Refusal, Written};
+use refusals::Refusal;
 use std::fmt::Write;
 use std::{array, fmt};
 
@@ -26,15 +26,15 @@ pub fn put_refused(out: &mut Output, refusal: Refusal) -> fmt::Result {
 }
 
 // Puts what a call answered that writes to a lent buffer.
-pub fn put_written(out: &mut Output, written: Written) -> fmt::Result {
+pub fn put_written(out: &mut Output, written: Result<usize, Refusal>) -> fmt::Result {
     match written {
-        Written::Count(count) => write!(out, "count {count}"),
-        Written::Refused(refusal) => put_refused(out, refusal),
+        Ok(count) => write!(out, "count {count}"),
+        Err(refusal) => put_refused(out, refusal),
     }
 }
 
 // Lends a call so many bytes, and puts the line of its answer, the lent bytes and the guard behind them. The byte at place i was i % 251.
-pub fn put_lent<F: FnOnce(&mut [u8]) -> Written>(
+pub fn put_lent<F: FnOnce(&mut [u8]) -> Result<usize, Refusal>>(
     out: &mut Output,
     room: usize,
     call: F,

@@ -1,8 +1,8 @@
 // Writing answers.
 use batch::output::Output;
 use call_lines::put_refused;
-use curves::{Fitted, Provided};
-use refusals::Written;
+use curves::Counts;
+use refusals::Refusal;
 use std::fmt;
 use std::fmt::Write;
 
@@ -16,24 +16,24 @@ fn put_lent(out: &mut Output, lent: &[u32]) -> fmt::Result {
 }
 
 // Puts the line of adding up or cutting: the answer and the lent buffer.
-pub fn put_written(out: &mut Output, answer: Written, lent: &[u32]) -> fmt::Result {
+pub fn put_written(out: &mut Output, answer: Result<usize, Refusal>, lent: &[u32]) -> fmt::Result {
     call_lines::put_written(out, answer)?;
     put_lent(out, lent)?;
     writeln!(out, "")
 }
 
 // Puts what fitting answered.
-fn put_counts(out: &mut Output, answer: Fitted) -> fmt::Result {
+fn put_counts(out: &mut Output, answer: Result<Counts, Refusal>) -> fmt::Result {
     match answer {
-        Fitted::Counts(left, served, rest) => write!(out, "counts {left} {served} {rest}"),
-        Fitted::Refused(refusal) => put_refused(out, refusal),
+        Ok(Counts { left, served, rest }) => write!(out, "counts {left} {served} {rest}"),
+        Err(refusal) => put_refused(out, refusal),
     }
 }
 
 // Puts the line of fitting: the answer and the three lent buffers.
 pub fn put_fitted(
     out: &mut Output,
-    answer: Fitted,
+    answer: Result<Counts, Refusal>,
     left: &[u32],
     served: &[u32],
     rest: &[u32],
@@ -46,16 +46,16 @@ pub fn put_fitted(
 }
 
 // Puts what the call of time to provide answered.
-fn put_instant(out: &mut Output, answer: Provided) -> fmt::Result {
+fn put_instant(out: &mut Output, answer: Result<Option<u32>, Refusal>) -> fmt::Result {
     match answer {
-        Provided::At(instant) => write!(out, "at {instant}"),
-        Provided::NotProvided => write!(out, "not provided"),
-        Provided::Refused(refusal) => put_refused(out, refusal),
+        Ok(Some(instant)) => write!(out, "at {instant}"),
+        Ok(None) => write!(out, "not provided"),
+        Err(refusal) => put_refused(out, refusal),
     }
 }
 
 // Puts the line of time to provide.
-pub fn put_provided(out: &mut Output, answer: Provided) -> fmt::Result {
+pub fn put_provided(out: &mut Output, answer: Result<Option<u32>, Refusal>) -> fmt::Result {
     put_instant(out, answer)?;
     writeln!(out, "")
 }

@@ -6,7 +6,8 @@ ghost use Rattle.std.specs.Prelude.{◌≡◌};
 ghost use Rattle.windows.specs.Windows.{is_plain};
 ghost use Rattle.curves.specs.Calls.{Adds, Cuts, Fits, Provides};
 
-use fitting::{Counts, Fitting};
+pub use fitting::Counts;
+use fitting::Fitting;
 use refusals::{Ground, Refusal, required};
 use walks::LIMIT;
 use walks::adding::Sum;

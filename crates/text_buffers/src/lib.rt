@@ -140,10 +140,7 @@ where
 // Puts the line of the analysis.
 pub fn put_analysis(out: &mut Output, text: &[u8], rooms: Rooms) -> fmt::Result {
     put_call(out, rooms, |free, sum, part, held, running, spare| {
-        let analysis = analyse(text, free, sum, part, held, running, spare);
-        if analysis.refusal.number != 0 {
-            return Err(analysis.refusal);
-        }
+        let analysis = analyse(text, free, sum, part, held, running, spare)?;
         Ok(Said::Answers {
             span: analysis.span,
             servers_n: analysis.servers_n,
@@ -155,10 +152,7 @@ pub fn put_analysis(out: &mut Output, text: &[u8], rooms: Rooms) -> fmt::Result 
 // Puts the line of who holds a tick.
 pub fn put_who(out: &mut Output, tick: u32, text: &[u8], rooms: Rooms) -> fmt::Result {
     put_call(out, rooms, |free, sum, part, held, running, spare| {
-        let who = who_at(text, tick, free, sum, part, held, running, spare);
-        if who.refusal.number != 0 {
-            return Err(who.refusal);
-        }
+        let who = who_at(text, tick, free, sum, part, held, running, spare)?;
         Ok(Said::Who {
             holder: who.holder,
             runner: who.runner,

@@ -1,7 +1,6 @@
 // What reading answers to a text, on one line.
 use batch::output::Output;
 use call_lines::put_refused;
-use reading::Answer;
 use std::fmt;
 use std::fmt::Write;
 use table::{Kind, Release, Server, Table, Task};
@@ -50,10 +49,9 @@ fn put_table(out: &mut Output, table: Table) -> fmt::Result {
 
 // Puts the line of a text: its table, or its refusal.
 pub fn put_reading(out: &mut Output, text: &[u8]) -> fmt::Result {
-    let read = reading::read(text);
-    match read.answer {
-        Answer::Accepted => put_table(out, read.table)?,
-        Answer::Refused(refusal) => put_refused(out, refusal)?,
+    match reading::read(text) {
+        Ok(table) => put_table(out, table)?,
+        Err(refusal) => put_refused(out, refusal)?,
     }
     writeln!(out, "")
 }

@@ -2,7 +2,6 @@
 use batch::output::Output;
 use batch::put_bad;
 use call_lines::put_lent;
-use refusals::Written;
 use rewriting::rewrite;
 use std::fmt;
 use std::fmt::Write;
@@ -18,7 +17,7 @@ const TEXT: usize = 2603;
 #[tactic(auto, using(putting::proofs::Rooms::count_fits))]
 pub fn put_report(out: &mut Output, text: &[u8]) -> fmt::Result {
     let mut bytes = [0u8; REPORT];
-    let Written::Count(count) = reporting::report(text, &mut bytes) else {
+    let Ok(count) = reporting::report(text, &mut bytes) else {
         return put_bad(out);
     };
     out.put_bytes(&bytes[..count]);

@@ -21,7 +21,7 @@ fn ask(text: &[u8], tick: u32) -> Result<Who, Refusal> {
         mut running,
         mut spare,
     ] = [[0u32; TICKS]; 6];
-    let who = who_at(
+    who_at(
         text,
         tick,
         &mut free,
@@ -30,19 +30,14 @@ fn ask(text: &[u8], tick: u32) -> Result<Who, Refusal> {
         &mut held,
         &mut running,
         &mut spare,
-    );
-    if who.refusal.number != 0 {
-        return Err(who.refusal);
-    }
-    Ok(who)
+    )
 }
 
 // Puts the ticks of a table, as far as curves and machine agree.
 fn put_agreed(out: &mut Output, text: &[u8], table: Table) -> fmt::Result {
     let mut state = machine::start();
     for tick in 0..table.span {
-        let stepped = state.step(table);
-        let Ok(who) = ask(text, tick) else {
+        let (Ok(who), Ok(stepped)) = (ask(text, tick), state.step(table)) else {
             return write!(out, " differs");
         };
         write!(out, " {} {}", who.holder, who.runner)?;
@@ -56,8 +51,8 @@ fn put_agreed(out: &mut Output, text: &[u8], table: Table) -> fmt::Result {
 
 // Puts the line of a text: its ticks, or its refusal.
 pub fn put_ticks(out: &mut Output, text: &[u8]) -> fmt::Result {
-    match ask(text, 0) {
-        Ok(_) => put_agreed(out, text, reading::read(text).table)?,
+    match reading::read(text) {
+        Ok(table) => put_agreed(out, text, table)?,
         Err(refusal) => put_refused(out, refusal)?,
     }
     writeln!(out, "")

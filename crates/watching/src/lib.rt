@@ -7,11 +7,11 @@ mod tasks;
 
 ghost use Rattle.std.specs.Prelude.{◌≤◌, IfOk};
 
-use answers::{Analysis, Response, TaskAnswer};
+use answers::{Analysis, Response};
 use batch::output::Output;
-use printing::{put_refused, put_report};
-use reading::Answer;
-use refusals::{Refusal, no_refusal};
+use printing::put_report;
+use reading::read;
+use refusals::Refusal;
 use servers::{no_answer, server_answer};
 use std::array;
 use table::Table;
@@ -24,11 +24,7 @@ const TICKS: usize = 16_000;
 fn watch(table: Table, holders: &mut [u32], runners: &mut [u32]) -> Result<(), Refusal> {
     let mut state = machine::start();
     for (holder, runner) in holders.iter_mut().zip(runners.iter_mut()) {
-        let stepped = state.step(table);
-        let refusal = stepped.refusal;
-        if refusal.number != 0 {
-            return Err(refusal);
-        }
+        let stepped = state.step(table)?;
         *holder = stepped.holder;
         *runner = stepped.runner;
         state = stepped.next;
@@ -36,20 +32,11 @@ fn watch(table: Table, holders: &mut [u32], runners: &mut [u32]) -> Result<(), R
     Ok(())
 }
 
-// The table of a text.
-fn table_of(text: &[u8]) -> Result<Table, Refusal> {
-    let read = reading::read(text);
-    match read.answer {
-        Answer::Accepted => Ok(read.table),
-        Answer::Refused(refusal) => Err(refusal),
-    }
-}
-
 // The answers of a text's table.
 fn analysed(text: &[u8]) -> Result<Analysis, Refusal>
     ensures { IfOk result (λ analysis. (analysis.servers_n ≤ 16) × (analysis.tasks_n ≤ 64)) }
 {
-    let table = table_of(text)?;
+    let table = read(text)?;
     let ticks = TICKS.min(table.span as usize);
     let mut holders = [0u32; TICKS];
     let mut runners = [0u32; TICKS];
@@ -67,13 +54,10 @@ fn analysed(text: &[u8]) -> Result<Analysis, Refusal>
         if j < tasks_n {
             task_answer(table.tasks[j], j as u32 + 1, &runners[..ticks])
         } else {
-            TaskAnswer {
-                response: Response::None,
-            }
+            Response::None
         }
     });
     Ok(Analysis {
-        refusal: no_refusal(),
         span: table.span,
         servers_n,
         tasks_n,
@@ -86,9 +70,6 @@ fn analysed(text: &[u8]) -> Result<Analysis, Refusal>
 pub fn put_answer(out: &mut Output, text: &[u8]) {
     // a report has at most so many bytes
     let mut page = [0u8; 4240];
-    let count = match analysed(text) {
-        Ok(analysis) => put_report(&mut page, analysis),
-        Err(refusal) => put_refused(&mut page, 0, refusal),
-    };
+    let count = put_report(&mut page, analysed(text));
     out.put_bytes(&page[..count]);
 }

@@ -1,14 +1,14 @@
 // What is counted of the servers: the free ticks of each full period.
 ghost use Rattle.std.specs.Prelude.{◌≤◌, length};
 
-use answers::{ServerAnswer, Short};
+use answers::ServerAnswer;
 use table::Server;
 
 // The answer where no full period is over.
 pub fn no_answer() -> ServerAnswer {
     ServerAnswer {
         full: 0,
-        short: Short::Never,
+        short: None,
     }
 }
 
@@ -28,15 +28,12 @@ pub fn server_answer(server: Server, number: u32, holders: &[u32]) -> ServerAnsw
     if period == 0 {
         return no_answer();
     }
-    let first_short = holders
+    let short = holders
         .chunks_exact(period)
         .position(|ticks| free_ticks(ticks, number) < server.capacity as usize)
         .and_then(|first| u32::try_from(first).ok());
     ServerAnswer {
         full: (holders.len() / period) as u32,
-        short: match first_short {
-            Some(first) => Short::First(first),
-            None => Short::Never,
-        },
+        short,
     }
 }

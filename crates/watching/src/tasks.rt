@@ -1,7 +1,7 @@
 // What is counted of the tasks: their jobs end in order of release, each when it has run for its work.
 ghost use Rattle.std.specs.Prelude.{◌≤◌, length};
 
-use answers::{Response, TaskAnswer, WorstJob};
+use answers::{Response, WorstJob};
 use table::{Release, Task};
 
 // What is known of a task's jobs: the release of the first job not ended, if a job follows; how long it has run; and the answer of those that
@@ -72,7 +72,7 @@ impl Jobs {
 }
 
 // A task's answer, from who runs in each tick.
-pub fn task_answer(task: Task, number: u32, runners: &[u32]) -> TaskAnswer
+pub fn task_answer(task: Task, number: u32, runners: &[u32]) -> Response
     requires { length runners.now ≤ 16000 }
 {
     let mut jobs = Jobs::of(task);
@@ -81,7 +81,5 @@ pub fn task_answer(task: Task, number: u32, runners: &[u32]) -> TaskAnswer
             jobs.run(task, tick as u32 + 1);
         }
     }
-    TaskAnswer {
-        response: jobs.response(runners.len()),
-    }
+    jobs.response(runners.len())
 }
