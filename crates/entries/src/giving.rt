@@ -1,4 +1,4 @@
-// From a kind and a release to their numbers.
+// From a kind and a release to their numbers: those of the calls for C, which the types themselves need not know.
 ghost use Rattle.std.specs.Prelude.{◌≡◌};
 ghost use Rattle.entries.specs.Entries.{kind_number, release_row};
 

@@ -1,4 +1,4 @@
-// From numbers to a kind and a release.
+// From the numbers of the calls for C to a kind and a release.
 ghost use Rattle.std.specs.Prelude.{◌≡◌};
 ghost use Rattle.entries.specs.Entries.{kind_from, release_from};
 

@@ -13,7 +13,7 @@ use Rattle.std.specs.Prelude.{Result, Ok, Err}
 use Rattle.refusals.specs.declared.Refusal.{Refusal}
 use Rattle.machine.specs.declared.Step.{Step}
 use Rattle.table.specs.Places.{server_at, first_of, none_of}
-use Rattle.machine.specs.Machine.{over_budget, over_work, accepts, stepped, refusal, step_of}
+use Rattle.machine.specs.Machine.{over_budget, over_work, accepts, stepped, refusal, step_of, handed_back}
 use Rattle.table.proofs.Places.{first_is, none_at}
 use Rattle.machine.proofs.Stepping.{accepted_rules, accepted_tick, accepted_budgets, accepted_work}
 
@@ -82,6 +82,10 @@ module _ (table : Table) (s : State) where
   pub step_accepted : accepts table s ≡ true → step_of table s ≡ Ok (stepped table s)
   unfolding step_of
   step_accepted e = rw e
+
+  -- of a refused one, the state that it got and 0 are handed back
+  pub refused_back : accepts table s ≡ false → handed_back s (step_of table s) ≡ record { next = s; holder = 0; runner = 0 }
+  refused_back e = rw (step_refused e)
 
   -- two outcomes that the contract of the step permits are equal
   pub step_once : (r q : Result Step Refusal) → r ≡ step_of table s → q ≡ step_of table s → r ≡ q

@@ -69,10 +69,10 @@ module _ (table : Table) (ok : Obeyed table) (s : State) where
 
 -- ---- the whole step
 
-pub step_goes : (table : Table) (s x r : State) (h k : ℕ) → r ≡ ready table s → h ≡ holder_of table r → k ≡ runner_of table r h
-    → x ≡ runs k (spends h r) → record { next = later x; holder = h; runner = k } ≡ stepped table s
+pub step_goes : (table : Table) (s r : State) (h k : ℕ) → r ≡ ready table s → h ≡ holder_of table r → k ≡ runner_of table r h
+    → record { next = later (runs k (spends h r)); holder = h; runner = k } ≡ stepped table s
 unfolding next holder runner
-step_goes table s x r h k b c d e = rw (e, d, c, b)
+step_goes table s r h k b c d = rw (d, c, b)
 
 -- from a state that the step accepts, budgets stay at most C
 module _ (table : Table) (ok : Obeyed table) (s : State) (full : Full table s) (e : accepts table s ≡ true) where

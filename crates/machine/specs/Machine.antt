@@ -120,9 +120,13 @@ accepts table s =
 abbrev pub stepped : Table → State → Step
 stepped table s = record { next = next table s; holder = holder table s; runner = runner table s }
 
--- a refused step leaves the state that it got with whoever called
 abbrev pub refusal : Refusal
 refusal = refused_for OutOfStep
 
 unfoldable pub step_of : Table → State → Result Step Refusal
 step_of table s = pick (accepts table s) (Ok (stepped table s)) (Err refusal)
+
+-- what is handed back of a step from a state: "a refused step also hands back the state it got, with 0 for server and task"
+abbrev pub handed_back : State → Result Step Refusal → Step
+handed_back s (Ok step) = step
+handed_back s (Err refused) = record { next = s; holder = 0; runner = 0 }

@@ -23,7 +23,7 @@ pub struct State {
     pub waiting: [u32; 64],
 }
 
-// What a step answers; holder and runner are 0 for none.
+// What a step answers. Holder and runner are numbers counted from 1, and 0 for none, since the calls for C hand them out so.
 #[derive(Clone, Copy)]
 pub struct Step {
     pub next: State,
@@ -63,8 +63,9 @@ impl State {
         let firsts = picking::first_tasks(ready, table);
         let holder = picking::first_server(ready, table, firsts);
         let runner = picking::first_task(holder, firsts);
-        let spent = running::spend(ready, holder);
-        let mut next = running::run(spent, runner);
+        let mut next = ready;
+        running::lose_one(&mut next.budgets, holder);
+        running::lose_one(&mut next.waiting, runner);
         next.tick += 1;
         Step {
             next,

@@ -51,7 +51,7 @@ pub struct Task {
     pub deadline: u32,
 }
 
-// Entries beyond the counts mean nothing.
+// Entries beyond the counts mean nothing. They are arrays with their counts, since the library allocates nothing.
 #[derive(Clone, Copy)]
 pub struct Table {
     pub span: u32,

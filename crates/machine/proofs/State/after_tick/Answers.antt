@@ -1,8 +1,8 @@
 -- The parts of a tick in their order.
-use Rattle.std.proofs.Common.{rules, ap, ◌≡◌, ◌∙◌}
+use Rattle.std.proofs.Common.{rules, arith, ap, ◌≡◌, ◌∙◌, length}
 use Rattle.table.proofs.Obeyed.{span_most}
 use Rattle.machine.specs.declared.State.{State}
-use Rattle.machine.specs.Machine.{releases, ready, runs}
+use Rattle.machine.specs.Machine.{releases, ready}
 use Rattle.machine.proofs.Stepping.{accepted_tick, accepted_work, holder_most, holder_has, first_runs, runner_most, runner_has, step_goes}
 use Rattle.machine.proofs.State.after_tick.Goals as goal
 
@@ -12,25 +12,27 @@ release-ready-requires c = (c.requires.obeyed, rw c.refill-filled.ensures (accep
 pub first_task-runner-requires : goal.first_task-runner-requires
 first_task-runner-requires c = holder_most _ c.requires.obeyed c.release-ready.result _ c.first_server-holder.ensures
 
-pub spend-spent-requires : goal.spend-spent-requires
-spend-spent-requires c = (
-  holder_most _ c.requires.obeyed c.release-ready.result _ c.first_server-holder.ensures,
-  holder_has _ c.requires.obeyed c.release-ready.result _ c.first_server-holder.ensures,
-)
-
-pub run-next-requires : goal.run-next-requires
-run-next-requires c =
+pub lose_one-requires : goal.lose_one-requires
+lose_one-requires c =
     let r = c.release-ready.result in
     let h = c.first_server-holder.result in
+    let long : length r.budgets ≡ 16 = search rules in
+    let most = holder_most _ c.requires.obeyed r h c.first_server-holder.ensures in
+    (omega (arith, most, long), holder_has _ c.requires.obeyed r h c.first_server-holder.ensures)
+
+pub lose_one-requires-2 : goal.lose_one-requires-2
+lose_one-requires-2 c =
+    let r = c.release-ready.result in
+    let h = c.first_server-holder.result in
+    let long : length r.waiting ≡ 64 = search rules in
     let most = holder_most _ c.requires.obeyed r h c.first_server-holder.ensures in
     let is = c.first_task-runner.ensures ∙ first_runs _ c.requires.obeyed r _ h c.first_tasks-firsts.ensures most in
-    (runner_most _ c.requires.obeyed r h _ is, rw c.spend-spent.ensures (runner_has _ c.requires.obeyed r h _ is))
+    (omega (arith, runner_most _ c.requires.obeyed r h _ is, long), runner_has _ c.requires.obeyed r h _ is)
 
 pub overflow_add-next : goal.overflow_add-next
 overflow_add-next c =
-    let tick : c.run-next.result.tick ≡ c.args.self.tick =
-    ap (λ (x : State). x.tick) c.run-next.ensures ∙ ap (λ (x : State). x.tick) c.spend-spent.ensures
-    ∙ ap (λ (x : State). x.tick) c.release-ready.ensures ∙ ap (λ (x : State). x.tick) c.refill-filled.ensures in
+    let tick : c.release-ready.result.tick ≡ c.args.self.tick =
+    ap (λ (x : State). x.tick) c.release-ready.ensures ∙ ap (λ (x : State). x.tick) c.refill-filled.ensures in
     search (rules, tick, accepted_tick _ _ c.requires.accepted, span_most _ c.requires.obeyed)
 
 pub returns : goal.returns
@@ -42,4 +44,4 @@ returns c =
     let most = holder_most _ c.requires.obeyed r h c.first_server-holder.ensures in
     let is = c.first_task-runner.ensures ∙ first_runs _ c.requires.obeyed r _ h c.first_tasks-firsts.ensures most in
     let ready-so = c.release-ready.ensures ∙ ap (releases c.args.table) c.refill-filled.ensures in
-    step_goes c.args.table c.args.self c.run-next.result r h k ready-so c.first_server-holder.ensures is (c.run-next.ensures ∙ ap (runs k) c.spend-spent.ensures)
+    rw (c.lose_one.ensures, c.lose_one-2.ensures) (step_goes c.args.table c.args.self r h k ready-so c.first_server-holder.ensures is)
