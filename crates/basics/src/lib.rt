@@ -7,19 +7,19 @@ ghost use Rattle.std.specs.Prelude.{◌≡◌, min, max};
 pub fn larger(a: u32, b: u32) -> u32
     ensures { result ≡ max a b }
 {
-    if a < b { b } else { a }
+    a.max(b)
 }
 
 // The smaller of two numbers.
 pub fn smaller(a: u32, b: u32) -> u32
     ensures { result ≡ min a b }
 {
-    if a < b { a } else { b }
+    a.min(b)
 }
 
 // How many of `count` entries an array of `room` places holds.
 pub fn stored(count: usize, room: usize) -> usize
     ensures { result ≡ min count room }
 {
-    if count < room { count } else { room }
+    count.min(room)
 }

@@ -37,17 +37,17 @@ pub record Cut (old new : List ℕ) (lines held : ℕ) : Type 0 where
   pub whole : 0 < lines → (held ≡ length old) × (new ≡ old)
   pub long : lines ≡ 0 → (held ≡ 1) × (get_or new 0 0 ≡ 63)
 
--- the room after the next part of the input is read; `old` and `was` are the room and what it held before that
-pub record NextPart (old new : List ℕ) (was next : Input) : Type 0 where
+-- what is held after the next part of the input is read
+pub record NextPart (was next : Input) : Type 0 where
   pub lines : next.lines ≤ next.held
-  pub held : next.held ≤ length old
+  pub held : next.held ≤ length was.room
   -- the lines are whole, and they are all the whole lines that are held
-  pub ends : EndsLine new next.lines
-  pub behind : (j : ℕ) → next.lines ≤ j → j < next.held → get_or new j 0 ≢ 10
+  pub ends : EndsLine next.room next.lines
+  pub behind : (j : ℕ) → next.lines ≤ j → j < next.held → get_or next.room j 0 ≢ 10
   -- at the input's end all is lines
   pub last : next.ended ≡ true → next.lines ≡ next.held
   -- what was held behind the lines before is still held, at the front
-  pub rest : was.held ≤ length old → 0 < next.lines
-      → (was.held - was.lines ≤ next.held) × (take (was.held - was.lines) new ≡ take (was.held - was.lines) (drop was.lines old))
+  pub rest : was.held ≤ length was.room → 0 < next.lines
+      → (was.held - was.lines ≤ next.held) × (take (was.held - was.lines) next.room ≡ take (was.held - was.lines) (drop was.lines was.room))
   -- where no line ends in a full room, a question mark is all that is held of it
-  pub long : next.ended ≡ false → next.lines ≡ 0 → (next.held ≡ 1) × (get_or new 0 0 ≡ 63)
+  pub long : next.ended ≡ false → next.lines ≡ 0 → (next.held ≡ 1) × (get_or next.room 0 0 ≡ 63)

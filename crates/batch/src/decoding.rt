@@ -1,73 +1,28 @@
-// From a line of hexadecimal digits to the bytes that it stands for.
-ghost use Rattle.std.specs.Prelude.{◌≤◌};
-ghost use Rattle.io.specs.Counts.{IsPrefixLen};
+// From hexadecimal digits to the bytes that they stand for.
+ghost use Rattle.std.specs.Prelude.{◌<◌, IfSome};
 
-// Whether all of a line stands for bytes, and how many.
-#[derive(Clone, Copy)]
-pub struct Decoded {
-    pub whole: bool,
-    pub count: usize,
-}
+use arrayvec::ArrayVec;
 
-// The value of a digit, or 16 for another byte.
-fn digit(byte: u8) -> u8
-    ensures { result ≤ 16 }
+// The value of a lowercase digit.
+fn digit(byte: u8) -> Option<u8>
+    ensures { IfSome result (λ value. value < 16) }
 {
-    if byte < b'0' {
-        return 16;
+    match byte {
+        b'0'..=b'9' => Some(byte - b'0'),
+        b'a'..=b'f' => Some(byte - b'a' + 10),
+        _ => None,
     }
-    if byte <= b'9' {
-        return byte - b'0';
-    }
-    if byte < b'a' {
-        return 16;
-    }
-    if byte <= b'f' {
-        return byte - b'a' + 10;
-    }
-    16
 }
 
-// The value of the digit at a place, or 16 where none stands.
-fn digit_at(line: &[u8], at: usize) -> u8
-    ensures { result ≤ 16 }
-{
-    if line.len() <= at {
-        return 16;
+// The bytes that digits stand for, two digits each, up to the line's end; none where there is another byte, or no room.
+pub fn decode<const ROOM: usize>(digits: &[u8]) -> Option<ArrayVec<u8, ROOM>> {
+    let mut bytes = ArrayVec::new();
+    let digits = digits.strip_suffix(b"\n").unwrap_or(digits);
+    if digits.len() % 2 != 0 {
+        return None;
     }
-    digit(line[at])
-}
-
-// Whether a line ends at a place: with a line feed, or with nothing behind its last byte.
-fn ends_line(line: &[u8], at: usize) -> bool {
-    if line.len() <= at {
-        return true;
+    for pair in digits.chunks_exact(2) {
+        bytes.try_push(digit(pair[0])? * 16 + digit(pair[1])?).ok()?;
     }
-    line[at] == b'\n'
-}
-
-// Puts the bytes of a line to the front of an array, as far as it has room.
-pub fn decode(line: &[u8], bytes: &mut [u8]) -> Decoded
-    ensures { IsPrefixLen result.count bytes.new }
-{
-    let mut at: usize = 0;
-    let mut k: usize = 0;
-    while k < bytes.len() {
-        if line.len() <= at {
-            break;
-        }
-        let high = digit(line[at]);
-        let low = digit_at(line, at + 1);
-        if 15 < high {
-            break;
-        }
-        if 15 < low {
-            break;
-        }
-        bytes[k] = high * 16 + low;
-        at += 2;
-        k += 1;
-    }
-    let whole = ends_line(line, at);
-    Decoded { whole, count: k }
+    Some(bytes)
 }

@@ -8,159 +8,67 @@
 // length, and its last line needs no line feed.
 #![tactic(auto)]
 
-ghost use Rattle.std.specs.Prelude.{◌≤◌};
-ghost use Rattle.io.specs.Counts.{IsPrefixLen};
-
-use batch::inputs::{read_on, unread};
-use batch::numbers::{next_number, read_number};
-use batch::{INPUT, ends, flush, next_line, put_bad};
+use batch::fields::Fields;
+use batch::output::Output;
+use batch::{answer_lines, put_bad};
 use curve_lines::printing::{put_fitted, put_provided, put_written};
-use curve_lines::reading::{Curve, lend, read_curve, read_size};
+use curve_lines::reading::{read_curve, read_lent};
+use std::fmt;
 
-// Adds up two curves, with a buffer of so much room, and puts the answer and the buffer.
-fn answer_add(a: Curve, b: Curve, room: usize, out: &mut [u8; 65536], n: usize) -> usize
-    requires { IsPrefixLen a.count a.numbers × (IsPrefixLen b.count b.numbers × (room ≤ 4096)) }
-{
-    let xs = a.numbers;
-    let ys = b.numbers;
-    let na = a.count;
-    let nb = b.count;
-    let mut sum = lend(room);
-    let answer = curves::add(&xs[..na], &ys[..nb], &mut sum[..room]);
-    put_written(out, n, answer, &sum, room)
+// Answers the rest of a line that asks for adding up; none where it has another form.
+fn answer_add(mut fields: Fields, out: &mut Output) -> Option<fmt::Result> {
+    let a = read_curve(&mut fields)?;
+    let b = read_curve(&mut fields)?;
+    let mut sum = read_lent(&mut fields)?;
+    fields.end()?;
+    let answer = curves::add(&a, &b, &mut sum);
+    Some(put_written(out, answer, &sum))
 }
 
-// Cuts a curve, with a buffer of so much room, and puts the answer and the buffer.
-fn answer_cut(curve: Curve, period: u32, room: usize, out: &mut [u8; 65536], n: usize) -> usize
-    requires { IsPrefixLen curve.count curve.numbers × (room ≤ 4096) }
-{
-    let xs = curve.numbers;
-    let nc = curve.count;
-    let mut parts = lend(room);
-    let answer = curves::cut(&xs[..nc], period, &mut parts[..room]);
-    put_written(out, n, answer, &parts, room)
+// Answers the rest of a line that asks for cutting.
+fn answer_cut(mut fields: Fields, out: &mut Output) -> Option<fmt::Result> {
+    let period = fields.next_number()?;
+    let curve = read_curve(&mut fields)?;
+    let mut parts = read_lent(&mut fields)?;
+    fields.end()?;
+    let answer = curves::cut(&curve, period, &mut parts);
+    Some(put_written(out, answer, &parts))
 }
 
-// Fits a demand into a supply, with three buffers of so much room each, and puts the answer and the buffers.
-fn answer_fit(
-    demand: Curve,
-    supply: Curve,
-    r1: usize,
-    r2: usize,
-    r3: usize,
-    out: &mut [u8; 65536],
-    n: usize,
-) -> usize
-    requires { IsPrefixLen demand.count demand.numbers × (IsPrefixLen supply.count supply.numbers × ((r1 ≤ 4096) × ((r2 ≤ 4096) × (r3 ≤ 4096)))) }
-{
-    let xs = demand.numbers;
-    let ys = supply.numbers;
-    let nd = demand.count;
-    let ns = supply.count;
-    let mut left = lend(r1);
-    let mut served = lend(r2);
-    let mut rest = lend(r3);
-    let answer = curves::fit(
-        &xs[..nd],
-        &ys[..ns],
-        &mut left[..r1],
-        &mut served[..r2],
-        &mut rest[..r3],
-    );
-    put_fitted(out, n, answer, &left, r1, &served, r2, &rest, r3)
+// Answers the rest of a line that asks for fitting.
+fn answer_fit(mut fields: Fields, out: &mut Output) -> Option<fmt::Result> {
+    let demand = read_curve(&mut fields)?;
+    let supply = read_curve(&mut fields)?;
+    let mut left = read_lent(&mut fields)?;
+    let mut served = read_lent(&mut fields)?;
+    let mut rest = read_lent(&mut fields)?;
+    fields.end()?;
+    let answer = curves::fit(&demand, &supply, &mut left, &mut served, &mut rest);
+    Some(put_fitted(out, answer, &left, &served, &rest))
 }
 
-// Runs the rest of a line that asks for adding up, and answers how many bytes wait after it.
-fn run_add(text: &[u8], at: usize, out: &mut [u8; 65536], n: usize) -> usize {
-    let a = read_curve(text, at);
-    let b = read_curve(text, a.behind);
-    let room = read_size(text, b.behind);
-    if !ends(text, room.behind) {
-        return put_bad(out, n);
-    }
-    answer_add(a, b, room.count, out, n)
+// Answers the rest of a line that asks for the time to provide.
+fn answer_provide(mut fields: Fields, out: &mut Output) -> Option<fmt::Result> {
+    let amount = fields.next_number()?;
+    let curve = read_curve(&mut fields)?;
+    fields.end()?;
+    Some(put_provided(out, curves::time_to_provide(&curve, amount)))
 }
 
-// Runs the rest of a line that asks for cutting.
-fn run_cut(text: &[u8], at: usize, out: &mut [u8; 65536], n: usize) -> usize {
-    let period = next_number(text, at);
-    let curve = read_curve(text, period.behind);
-    let room = read_size(text, curve.behind);
-    if !ends(text, room.behind) {
-        return put_bad(out, n);
-    }
-    answer_cut(curve, period.value, room.count, out, n)
+// Answers a line.
+fn answer_line(line: &[u8], out: &mut Output) -> fmt::Result {
+    let mut fields = Fields::of(line);
+    let answered = match fields.number() {
+        Some(1) => answer_add(fields, out),
+        Some(2) => answer_cut(fields, out),
+        Some(3) => answer_fit(fields, out),
+        Some(4) => answer_provide(fields, out),
+        _ => None,
+    };
+    answered.unwrap_or_else(|| put_bad(out))
 }
 
-// Runs the rest of a line that asks for fitting.
-fn run_fit(text: &[u8], at: usize, out: &mut [u8; 65536], n: usize) -> usize {
-    let demand = read_curve(text, at);
-    let supply = read_curve(text, demand.behind);
-    let r1 = read_size(text, supply.behind);
-    let r2 = read_size(text, r1.behind);
-    let r3 = read_size(text, r2.behind);
-    if !ends(text, r3.behind) {
-        return put_bad(out, n);
-    }
-    answer_fit(demand, supply, r1.count, r2.count, r3.count, out, n)
-}
-
-// Runs the rest of a line that asks for the time to provide.
-fn run_provide(text: &[u8], at: usize, out: &mut [u8; 65536], n: usize) -> usize {
-    let amount = next_number(text, at);
-    let curve = read_curve(text, amount.behind);
-    if !ends(text, curve.behind) {
-        return put_bad(out, n);
-    }
-    let xs = curve.numbers;
-    let nc = curve.count;
-    let answer = curves::time_to_provide(&xs[..nc], amount.value);
-    put_provided(out, n, answer)
-}
-
-// Runs the call of the line that starts at a place.
-fn run_line(text: &[u8], at: usize, out: &mut [u8; 65536], n: usize) -> usize {
-    let number = read_number(text, at);
-    let call = number.value;
-    match call {
-        1 => run_add(text, number.behind, out, n),
-        2 => run_cut(text, number.behind, out, n),
-        3 => run_fit(text, number.behind, out, n),
-        4 => run_provide(text, number.behind, out, n),
-        _ => put_bad(out, n),
-    }
-}
-
-// Runs the calls of a text, a line each.
-fn run_lines(text: &[u8], out: &mut [u8; 65536], n: usize) -> usize {
-    let mut m = n;
-    let mut at: usize = 0;
-    while at < text.len() {
-        m = run_line(text, at, out, m);
-        at = next_line(text, at);
-    }
-    m
-}
-
-// Reads standard input part by part and runs its calls. A proved loop has to end, and nothing says that the input does: its turns are
-// counted down from a number that no run uses up.
-fn run_input(room: &mut [u8; INPUT]) {
-    let mut out = [0u8; 65536];
-    let mut n: usize = 0;
-    let mut input = unread();
-    let mut turns = u64::MAX;
-    while 0 < turns && !input.ended {
-        input = read_on(room, input);
-        let lines = input.lines;
-        let text: &[u8] = room;
-        n = run_lines(&text[..lines], &mut out, n);
-        turns -= 1;
-    }
-    flush(&out, n);
-}
-
-// Lends the array for standard input.
+// Answers the lines of standard input.
 fn main() {
-    let mut room = [0u8; INPUT];
-    run_input(&mut room);
+    answer_lines(answer_line);
 }

@@ -1,14 +1,12 @@
 -- The words of specs/ that the library has too. Assumes nothing.
-use Rattle.std.proofs.Common.{get_or, Option, Some, None, unwrap_or, ◌≡◌, ℕ, Bool, true, false, ◌&&◌, cond, eqb, List, [], ◌∷◌, refl, ap, ◌∙◌, arith}
-use Rattle.std.specs.List.{list_all, slice_get, position_or_len, slice_split, onto_first}
+use Rattle.std.proofs.Common.{get_or, Option, Some, None, unwrap_or, ◌≡◌, ℕ, Bool, true, false, ◌&&◌, cond, eqb, List, [], ◌∷◌, refl, ap, ◌∙◌}
+use Rattle.std.specs.List.{list_all, slice_get, slice_split, onto_first}
 use Rattle.std.specs.Option.{option_map}
 use Rattle.std.specs.Cmp.Lexicographic.{pointwise}
 use Rattle.std.proofs.lemmas.Option.{unwrap_or-slice_get}
-use Rattle.std.proofs.lemmas.List.Recursion.{is_position_or_len}
 use Rattle.basics.specs.Choice.{pick}
 use Rattle.table.specs.Rules.{all}
 use Rattle.fields.specs.Fields.{in_first, split, same_bytes}
-use Rattle.fields.specs.Pieces.{first_length}
 
 -- `==` of two slices
 pub same_is : (l m : List ℕ) → pointwise eqb l m ≡ same_bytes l m
@@ -26,11 +24,6 @@ all_is f (a ∷ l) = ap (λ x. f a && x) (all_is f l)
 pick_is : {A : Type 0} (t : Bool) (x y : A) → pick t x y ≡ cond t x y
 pick_is true x y = refl
 pick_is false x y = refl
-
--- `position`
-pub first_is : (sep : ℕ) (l : List ℕ) → first_length sep l ≡ position_or_len (λ b. eqb b sep) l
-unfolding first_length
-first_is sep l = is_position_or_len (first_length sep) (λ b. eqb b sep) refl (λ b r. pick_is (eqb b sep) _ _ ∙ ap (cond (eqb b sep) 0) (omega arith)) l
 
 in_first_is : (b : ℕ) (fs : List (List ℕ)) → onto_first b fs ≡ in_first b fs
 in_first_is b [] = refl

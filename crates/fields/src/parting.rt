@@ -1,7 +1,6 @@
 // Texts parted into lines, and lines into fields.
-ghost use Rattle.std.specs.Prelude.{◌≡◌, [], ◌≤◌, ◌<◌, length, get_or};
+ghost use Rattle.std.specs.Prelude.{◌≡◌, [], length, get_or};
 ghost use Rattle.fields.specs.Fields.{split, same_bytes};
-ghost use Rattle.fields.specs.Pieces.{first_length};
 
 // Whether two slices hold the same bytes; `==` itself would want `b"span".as_slice()` on its right.
 #[tactic(auto, using(crate::proofs::Library::same_is))]
@@ -9,16 +8,6 @@ pub fn same(a: &[u8], b: &[u8]) -> bool
     ensures { result ≡ same_bytes a.now b.now }
 {
     a == b
-}
-
-// How many bytes lie before the first separator, or all of them.
-pub fn piece_length(bytes: &[u8], separator: u8) -> usize
-    ensures { result ≡ first_length separator bytes.now }
-{
-    bytes
-        .iter()
-        .position(|byte| *byte == separator)
-        .unwrap_or(bytes.len())
 }
 
 // How many fields a line has.

@@ -69,17 +69,6 @@ pub less_length : (l : List ℕ) (n : ℕ) → length (one_less l n) ≡ length 
 less_length l zero = refl
 less_length l (suc i) = length-set l i (get_or l i 0 - 1)
 
-pub less_none : (l : List ℕ) (n : ℕ) → n ≡ 0 → one_less l n ≡ l
-less_none l n e = rw e
-
-pub less_is : (l : List ℕ) (n : ℕ) → n ≢ 0 → one_less l n ≡ set l (n - 1) (get_or l (n - 1) 0 - 1)
-less_is l zero h = absurd (h refl)
-less_is l (suc i) h = let e : suc i - 1 ≡ i = omega arith in rw e
-
-pub entry_is : (l : List ℕ) (n : ℕ) → n ≢ 0 → entry_of l n ≡ get_or l (n - 1) 0
-entry_is l zero h = absurd (h refl)
-entry_is l (suc i) h = let e : suc i - 1 ≡ i = omega arith in rw e
-
 -- the number's entry is one less, and no other changes
 pub less_at : (l : List ℕ) (n i : ℕ) → i < length l → get_or (one_less l n) i 0 ≡ get_or l i 0 - pick (eqb n (suc i)) 1 0
 less_at l zero i h = rw (ne_eqb 0 (suc i) (λ e. omega arith)) (omega arith)

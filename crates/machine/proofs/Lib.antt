@@ -1,5 +1,4 @@
 pub mod Beside
-pub mod States
 pub mod Noting
 pub mod OneTick
 pub mod Stepping

@@ -12,7 +12,7 @@ ghost use Rattle.machine.specs.Machine.{accepts, stepped, step_of};
 ghost use Rattle.table.specs.Places.{Obeyed};
 ghost use Rattle.machine.specs.Run.{all_zero};
 
-use refusals::{Ground, Refusal, refused};
+use refusals::{Ground, Refusal, required};
 use table::Table;
 
 // Before a tick: its number, each server's budget, each task's waiting work.
@@ -48,9 +48,7 @@ impl State {
     pub fn step(self, table: Table) -> Result<Step, Refusal>
         ensures { result ≡ step_of table self }
     {
-        if !refusing::accepted(self, table) {
-            return Err(refused(Ground::OutOfStep));
-        }
+        required(refusing::accepted(self, table), Ground::OutOfStep)?;
         Ok(self.after_tick(table))
     }
 

@@ -6,7 +6,7 @@ ghost use Rattle.std.specs.Prelude.{◌≡◌};
 ghost use Rattle.opening.specs.Opening.{enough, opened_of};
 
 use reading::read;
-use refusals::{Ground, Refusal, refused};
+use refusals::{Ground, Refusal, required};
 use table::Table;
 
 // The least that a work buffer holds.
@@ -23,12 +23,8 @@ fn enough(rooms: &[usize]) -> bool
 pub fn open_text(text: &[u8], tick: u32, rooms: [usize; 6]) -> Result<Table, Refusal>
     ensures { result ≡ opened_of text.now tick (enough rooms) }
 {
-    if !enough(&rooms) {
-        return Err(refused(Ground::WorkRoom));
-    }
+    required(enough(&rooms), Ground::WorkRoom)?;
     let table = read(text)?;
-    if tick >= table.span {
-        return Err(refused(Ground::OutOfStep));
-    }
+    required(tick < table.span, Ground::OutOfStep)?;
     Ok(table)
 }

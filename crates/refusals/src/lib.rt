@@ -87,13 +87,6 @@ impl From<Ground> for Refusal {
     }
 }
 
-// The refusal on a ground that has no line.
-pub fn refused(ground: Ground) -> Refusal
-    ensures { result ≡ refused_at ground 0 0 }
-{
-    Refusal::from(ground)
-}
-
 // What a call asks for: where it does not hold, the call is refused on the ground.
 pub fn required(holds: bool, ground: Ground) -> Result<(), Refusal>
     ensures { result ≡ (if holds then Ok tt else Err (refused_at ground 0 0)) }

@@ -40,9 +40,6 @@ module _ {p : ℕ → Bool} {n i : ℕ} (w : Walk p n i) where
         let same : first_of p (n - i) i ≡ first_of p (n - (i + 1)) (i + 1) = rw (some_left, e, add-one i) in
         record { within = omega arith; ahead = sym same ∙ w.ahead }
 
-    pub walk_some : p i ≡ true → none_of p n ≡ false
-    walk_some e = rw (walk_finds e) (ne_eqb (i + 1) 0 (λ q. omega arith))
-
   pub walk_ends : n ≤ i → first_of p n 0 ≡ 0
   unfolding first_of
   walk_ends h = let none : n - i ≡ 0 = omega arith in sym w.ahead ∙ rw none

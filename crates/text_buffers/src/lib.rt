@@ -1,94 +1,167 @@
-// Kinds 6 and 7 of the program `text_calls`: calls that are lent six work buffers, and what became of each buffer. `n` bytes wait at the front
-// of `out`, and each function that puts answers how many wait after it.
+// Calls of the program `text_calls` that are lent six work buffers, and what became of each buffer. Each is the front of an array, and what lies
+// behind it in the array guards it.
 #![tactic(auto)]
 
-mod lending;
-
-ghost use Rattle.text_lines.specs.Fits.{Lendable};
-
-use batch::{put_byte, put_number, put_word};
+use batch::output::Output;
 use call_lines::put_refused;
-use lending::{Said, Seen, lend};
+use refusals::Refusal;
+use scheduling::{analyse, who_at};
+use std::fmt::Write;
+use std::{array, fmt};
 use text_lines::asking::Rooms;
 
-// A call on six lent buffers: the analysis, or who holds a tick.
+// How many numbers each array has: a guard of 8 behind the largest lent part.
+const GUARDED: usize = 16_016;
+
+// A lent work buffer.
+type Lent<'a> = &'a mut [u32];
+
+// What a call answered: what an analysis counted, or who holds a tick and who runs in it.
 #[derive(Clone, Copy)]
-pub enum Call {
-    Analyse,
-    WhoAt(u32),
+enum Said {
+    Answers {
+        span: u32,
+        servers_n: usize,
+        tasks_n: usize,
+    },
+    Who {
+        holder: u32,
+        runner: u32,
+    },
 }
 
-// Puts what an analysis counted: ticks, servers and tasks.
-fn put_counts(
-    out: &mut [u8; 65536],
-    n: usize,
-    span: u32,
-    servers_n: usize,
-    tasks_n: usize,
-) -> usize {
-    let mut m = put_word(out, n, b"answers");
-    m = put_number(out, m, span as u64);
-    m = put_number(out, m, servers_n as u64);
-    put_number(out, m, tasks_n as u64)
+impl fmt::Display for Said {
+    fn fmt<W: fmt::Write>(&self, f: &mut fmt::Formatter<W>) -> fmt::Result {
+        match self {
+            Said::Answers {
+                span,
+                servers_n,
+                tasks_n,
+            } => write!(f, "answers {span} {servers_n} {tasks_n}"),
+            Said::Who { holder, runner } => write!(f, "who {holder} {runner}"),
+        }
+    }
 }
 
-// Puts who holds a tick and who runs in it.
-fn put_who(out: &mut [u8; 65536], n: usize, holder: u32, runner: u32) -> usize {
-    let mut m = put_word(out, n, b"who");
-    m = put_number(out, m, holder as u64);
-    put_number(out, m, runner as u64)
+// What became of an array: all of it is as it was; or all of the lent part is 0, and the guard as it was.
+#[derive(Clone, Copy)]
+enum Became {
+    Same,
+    Zero,
+    Other,
 }
 
-// Puts what a call answered.
-fn put_said(out: &mut [u8; 65536], n: usize, said: Said) -> usize {
+impl fmt::Display for Became {
+    fn fmt<W: fmt::Write>(&self, f: &mut fmt::Formatter<W>) -> fmt::Result {
+        match self {
+            Became::Same => write!(f, "same"),
+            Became::Zero => write!(f, "zero"),
+            Became::Other => write!(f, "other"),
+        }
+    }
+}
+
+// An array before a part of it is lent.
+fn fresh() -> [u32; GUARDED] {
+    array::from_fn(|place| 7_000_000 + place as u32)
+}
+
+impl Became {
+    // What became of an array, from its lent part and the guard behind it. No number was 0 before.
+    fn of(lent: &[u32], guard: &[u32], before: &[u32]) -> Self {
+        if !before.ends_with(guard) {
+            return Became::Other;
+        }
+        if before.starts_with(lent) {
+            return Became::Same;
+        }
+        if lent.iter().all(|number| *number == 0) {
+            return Became::Zero;
+        }
+        Became::Other
+    }
+}
+
+// Puts what a call answered, or its refusal.
+fn put_said(out: &mut Output, said: Result<Said, Refusal>) -> fmt::Result {
     match said {
-        Said::Refused(refusal) => put_refused(out, n, refusal),
-        Said::Answers(span, servers_n, tasks_n) => put_counts(out, n, span, servers_n, tasks_n),
-        Said::Who(holder, runner) => put_who(out, n, holder, runner),
+        Ok(said) => write!(out, "{said}")?,
+        Err(refusal) => put_refused(out, refusal)?,
     }
+    write!(out, " |")
 }
 
-// Puts what became of a buffer.
-fn put_seen(out: &mut [u8; 65536], n: usize, seen: Seen) -> usize {
-    if seen.same {
-        return put_word(out, n, b" same");
+// Puts what became of six arrays, of each of which the lent part and the guard are given.
+fn put_became(out: &mut Output, parts: [(&[u32], &[u32]); 6]) -> fmt::Result {
+    let before = fresh();
+    for (lent, guard) in parts {
+        write!(out, " {}", Became::of(lent, guard, &before))?;
     }
-    if seen.zero {
-        return put_word(out, n, b" zero");
-    }
-    put_word(out, n, b" other")
+    writeln!(out, "")
 }
 
-// Puts what became of the six buffers.
-fn put_buffers(out: &mut [u8; 65536], n: usize, buffers: [Seen; 6]) -> usize {
-    let mut m = n;
-    let mut i: usize = 0;
-    while i < 6 {
-        let seen = buffers[i];
-        m = put_seen(out, m, seen);
-        i += 1;
-    }
-    m
-}
-
-// Puts the line of a call: the answer, and what became of the six buffers.
-pub fn put_call(out: &mut [u8; 65536], n: usize, call: Call, text: &[u8], rooms: Rooms) -> usize
-    requires { Lendable rooms }
+// Lends a call so many of the first numbers of six arrays, and puts the line of its answer and what became of the arrays. These stand in a
+// frame of their own, and not in that of each line's answer.
+#[inline(never)]
+fn put_call<F>(out: &mut Output, rooms: Rooms, call: F) -> fmt::Result
+where
+    F: FnOnce(Lent, Lent, Lent, Lent, Lent, Lent) -> Result<Said, Refusal>,
+    requires { F.IsAlwaysCallable call }
 {
-    let lent = lend(
-        call,
-        text,
-        rooms.free,
-        rooms.sum,
-        rooms.part,
-        rooms.held,
-        rooms.running,
-        rooms.spare,
+    let before: [u32; GUARDED] = array::from_fn(|place| 7_000_000 + place as u32);
+    let [
+        mut free,
+        mut sum,
+        mut part,
+        mut held,
+        mut running,
+        mut spare,
+    ] = [before; 6];
+    let said = call(
+        &mut free[..rooms.free],
+        &mut sum[..rooms.sum],
+        &mut part[..rooms.part],
+        &mut held[..rooms.held],
+        &mut running[..rooms.running],
+        &mut spare[..rooms.spare],
     );
-    let said = lent.said;
-    let seen = lent.seen;
-    let mut m = put_said(out, n, said);
-    m = put_word(out, m, b" |");
-    m = put_buffers(out, m, seen);
-    put_byte(out, m, b'\n')
+    put_said(out, said)?;
+    let parts = [
+        free.split_at(rooms.free),
+        sum.split_at(rooms.sum),
+        part.split_at(rooms.part),
+        held.split_at(rooms.held),
+        running.split_at(rooms.running),
+        spare.split_at(rooms.spare),
+    ];
+    put_became(out, parts)
+}
+
+// Puts the line of the analysis.
+pub fn put_analysis(out: &mut Output, text: &[u8], rooms: Rooms) -> fmt::Result {
+    put_call(out, rooms, |free, sum, part, held, running, spare| {
+        let analysis = analyse(text, free, sum, part, held, running, spare);
+        if analysis.refusal.number != 0 {
+            return Err(analysis.refusal);
+        }
+        Ok(Said::Answers {
+            span: analysis.span,
+            servers_n: analysis.servers_n,
+            tasks_n: analysis.tasks_n,
+        })
+    })
+}
+
+// Puts the line of who holds a tick.
+pub fn put_who(out: &mut Output, tick: u32, text: &[u8], rooms: Rooms) -> fmt::Result {
+    put_call(out, rooms, |free, sum, part, held, running, spare| {
+        let who = who_at(text, tick, free, sum, part, held, running, spare);
+        if who.refusal.number != 0 {
+            return Err(who.refusal);
+        }
+        Ok(Said::Who {
+            holder: who.holder,
+            runner: who.runner,
+        })
+    })
 }

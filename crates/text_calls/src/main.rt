@@ -18,87 +18,42 @@
 // line feed counted. The input may have any length, and its last line needs no line feed.
 #![tactic(auto)]
 
-ghost use Rattle.std.specs.Prelude.{◌<◌, length};
-ghost use Rattle.text_lines.specs.Fits.{Fits};
-
-use batch::inputs::{read_on, unread};
-use batch::{INPUT, flush, next_line, put_bad, put_word};
-use text_buffers::{Call, put_call};
-use text_lines::asking::{Asked, read_line};
+use batch::output::Output;
+use batch::{answer_lines, put_bad};
+use std::fmt;
+use text_buffers::{put_analysis, put_who};
+use text_lines::asking::{Request, read_line};
 use text_lines::tables::put_reading;
 use text_reports::reports::{put_machine_report, put_report, put_rewritten, put_with_room};
 use text_reports::ticks::put_ticks;
 
-// Puts the answer to a call that takes a text and nothing else.
-fn answer_text(kind: u32, out: &mut [u8; 65536], n: usize, text: &[u8]) -> usize {
-    match kind {
-        1 => put_report(out, n, text),
-        2 => put_machine_report(out, n, text),
-        3 => put_reading(out, n, text),
-        4 => put_ticks(out, n, text),
-        8 => put_rewritten(out, n, text),
-        _ => put_bad(out, n),
-    }
-}
-
-// Puts the answer to what a line asks for.
-fn answer(asked: Asked, out: &mut [u8; 65536], n: usize) -> usize
-    requires { Fits asked }
-{
-    let kind = asked.kind;
-    let rooms = asked.rooms;
-    let bytes = asked.bytes;
-    let count = asked.count;
-    let text: &[u8] = &bytes[..count];
-    match kind {
-        5 => put_with_room(out, n, text, asked.first as usize),
-        6 => put_call(out, n, Call::Analyse, text, rooms),
-        7 => put_call(out, n, Call::WhoAt(asked.first), text, rooms),
-        _ => answer_text(kind, out, n, text),
+// Puts the answer to what is asked of a text.
+fn answer(request: Request, text: &[u8], out: &mut Output) -> fmt::Result {
+    match request {
+        Request::Report => put_report(out, text),
+        Request::MachineReport => put_machine_report(out, text),
+        Request::Reading => put_reading(out, text),
+        Request::Ticks => put_ticks(out, text),
+        Request::WithRoom(room) => put_with_room(out, text, room),
+        Request::Analyse(rooms) => put_analysis(out, text, rooms),
+        Request::WhoAt(tick, rooms) => put_who(out, tick, text, rooms),
+        Request::Rewritten => put_rewritten(out, text),
     }
 }
 
 // Answers a line.
-fn run_line(line: &[u8], out: &mut [u8; 65536], n: usize) -> usize
-    requires { 0 < length line.now }
-{
-    if line[0] == b'#' {
-        return put_word(out, n, line);
+fn answer_line(line: &[u8], out: &mut Output) -> fmt::Result {
+    if line.starts_with(b"#") {
+        out.put_bytes(line);
+        return Ok(());
     }
-    answer(read_line(line), out, n)
+    match read_line(line) {
+        Some(asked) => answer(asked.request, &asked.text, out),
+        None => put_bad(out),
+    }
 }
 
-// Answers the lines of a text.
-fn run_lines(text: &[u8], out: &mut [u8; 65536], n: usize) -> usize {
-    let mut m = n;
-    let mut at: usize = 0;
-    while at < text.len() {
-        let behind = next_line(text, at);
-        m = run_line(&text[at..behind], out, m);
-        at = behind;
-    }
-    m
-}
-
-// Reads standard input part by part and answers its lines. A proved loop has to end, and nothing says that the input does: its turns are
-// counted down from a number that no run uses up.
-fn run_input(room: &mut [u8; INPUT]) {
-    let mut out = [0u8; 65536];
-    let mut n: usize = 0;
-    let mut input = unread();
-    let mut turns = u64::MAX;
-    while 0 < turns && !input.ended {
-        input = read_on(room, input);
-        let lines = input.lines;
-        let text: &[u8] = room;
-        n = run_lines(&text[..lines], &mut out, n);
-        turns -= 1;
-    }
-    flush(&out, n);
-}
-
-// Lends the array for standard input.
+// Answers the lines of standard input.
 fn main() {
-    let mut room = [0u8; INPUT];
-    run_input(&mut room);
+    answer_lines(answer_line);
 }

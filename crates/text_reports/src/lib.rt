@@ -1,5 +1,4 @@
-// Kinds 1, 2, 4, 5 and 8 of the program `text_calls`: what the curves and the machine say of a text's table, and the table written back. `n` bytes
-// wait at the front of `out`, and each function that puts answers how many wait after it.
+// What the curves and the machine say of a text's table, and the table written back, for the program `text_calls`.
 #![tactic(auto)]
 
 pub mod reports;

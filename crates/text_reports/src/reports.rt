@@ -1,8 +1,11 @@
-// Kinds 1, 2, 5 and 8: reports, and the table written back.
-use batch::{put_bad, put_byte, put_word};
-use call_lines::{LENT, fresh, put_lent};
+// Reports, and the table written back.
+use batch::output::Output;
+use batch::put_bad;
+use call_lines::put_lent;
 use refusals::Written;
 use rewriting::rewrite;
+use std::fmt;
+use std::fmt::Write;
 use watching::put_answer;
 
 // More bytes than a report has.
@@ -12,36 +15,31 @@ const REPORT: usize = 4096;
 const TEXT: usize = 2603;
 
 // Puts the report of a text and an empty line.
-pub fn put_report(out: &mut [u8; 65536], n: usize, text: &[u8]) -> usize {
+#[tactic(auto, using(putting::proofs::Rooms::count_fits))]
+pub fn put_report(out: &mut Output, text: &[u8]) -> fmt::Result {
     let mut bytes = [0u8; REPORT];
-    let reported = reporting::report(text, &mut bytes);
-    let Written::Count(count) = reported else {
-        return put_bad(out, n);
+    let Written::Count(count) = reporting::report(text, &mut bytes) else {
+        return put_bad(out);
     };
-    let m = put_word(out, n, &bytes[..count]);
-    put_byte(out, m, b'\n')
+    out.put_bytes(&bytes[..count]);
+    writeln!(out, "")
 }
 
 // Puts the report of a text from the tick machine alone and an empty line.
-pub fn put_machine_report(out: &mut [u8; 65536], n: usize, text: &[u8]) -> usize {
-    let m = put_answer(out, n, text);
-    put_byte(out, m, b'\n')
+pub fn put_machine_report(out: &mut Output, text: &[u8]) -> fmt::Result {
+    put_answer(out, text);
+    writeln!(out, "")
 }
 
 // Puts the line of a text whose report is asked for with so much room: the answer, the lent bytes and the guard behind them.
-pub fn put_with_room(out: &mut [u8; 65536], n: usize, text: &[u8], room: usize) -> usize {
-    if LENT < room {
-        return put_bad(out, n);
-    }
-    let mut bytes = fresh();
-    let reported = reporting::report(text, &mut bytes[..room]);
-    put_lent(out, n, reported, &bytes, room)
+pub fn put_with_room(out: &mut Output, text: &[u8], room: usize) -> fmt::Result {
+    put_lent(out, room, |bytes| reporting::report(text, bytes))
 }
 
 // Puts the table of a text as it is written back, or the line of the refusal, and an empty line.
-pub fn put_rewritten(out: &mut [u8; 65536], n: usize, text: &[u8]) -> usize {
+pub fn put_rewritten(out: &mut Output, text: &[u8]) -> fmt::Result {
     let mut bytes = [0u8; TEXT];
     let count = rewrite(text, &mut bytes);
-    let m = put_word(out, n, &bytes[..count]);
-    put_byte(out, m, b'\n')
+    out.put_bytes(&bytes[..count]);
+    writeln!(out, "")
 }

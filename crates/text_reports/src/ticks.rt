@@ -1,19 +1,27 @@
-// Kind 4: who holds each tick of a table's span and who runs in it, from the curves and from the machine, on one line.
-use batch::{put_byte, put_number, put_word};
+// Who holds each tick of a table's span and who runs in it, from the curves and from the machine, on one line.
+use batch::output::Output;
 use call_lines::put_refused;
-use machine::{State, Stepped};
+use refusals::Refusal;
 use scheduling::{Who, who_at};
+use std::fmt;
+use std::fmt::Write;
 use table::Table;
 
-// Who holds a tick, from the curves.
-fn ask(text: &[u8], tick: u32) -> Who {
-    let mut free = [0u32; 16_000];
-    let mut sum = [0u32; 16_000];
-    let mut part = [0u32; 16_000];
-    let mut held = [0u32; 16_000];
-    let mut running = [0u32; 16_000];
-    let mut spare = [0u32; 16_000];
-    who_at(
+// The most ticks that a span has.
+const TICKS: usize = 16_000;
+
+// Who holds a tick, from the curves. Its buffers stand in a frame of their own, and not in that of each line's answer.
+#[inline(never)]
+fn ask(text: &[u8], tick: u32) -> Result<Who, Refusal> {
+    let [
+        mut free,
+        mut sum,
+        mut part,
+        mut held,
+        mut running,
+        mut spare,
+    ] = [[0u32; TICKS]; 6];
+    let who = who_at(
         text,
         tick,
         &mut free,
@@ -22,52 +30,35 @@ fn ask(text: &[u8], tick: u32) -> Who {
         &mut held,
         &mut running,
         &mut spare,
-    )
-}
-
-// Puts who holds a tick and who runs in it.
-fn put_who(out: &mut [u8; 65536], n: usize, who: Who) -> usize {
-    let m = put_number(out, n, who.holder as u64);
-    put_number(out, m, who.runner as u64)
-}
-
-// Whether the curves and the machine say the same of a tick.
-fn agree(who: Who, stepped: Stepped) -> bool {
-    if who.holder != stepped.holder {
-        return false;
+    );
+    if who.refusal.number != 0 {
+        return Err(who.refusal);
     }
-    who.runner == stepped.runner
+    Ok(who)
 }
 
 // Puts the ticks of a table, as far as curves and machine agree.
-fn put_agreed(out: &mut [u8; 65536], n: usize, text: &[u8], table: Table) -> usize {
+fn put_agreed(out: &mut Output, text: &[u8], table: Table) -> fmt::Result {
     let mut state = machine::start();
-    let mut m = n;
-    let mut tick: u32 = 0;
-    while tick < table.span {
+    for tick in 0..table.span {
         let stepped = state.step(table);
-        let who = ask(text, tick);
-        m = put_who(out, m, who);
-        if !agree(who, stepped) {
-            return put_word(out, m, b" differs");
+        let Ok(who) = ask(text, tick) else {
+            return write!(out, " differs");
+        };
+        write!(out, " {} {}", who.holder, who.runner)?;
+        if who.holder != stepped.holder || who.runner != stepped.runner {
+            return write!(out, " differs");
         }
         state = stepped.next;
-        tick += 1;
     }
-    put_word(out, m, b" same")
+    write!(out, " same")
 }
 
 // Puts the line of a text: its ticks, or its refusal.
-pub fn put_ticks(out: &mut [u8; 65536], n: usize, text: &[u8]) -> usize {
-    let who = ask(text, 0);
-    let refusal = who.refusal;
-    let mut m = n;
-    if refusal.number != 0 {
-        m = put_refused(out, m, refusal);
-    } else {
-        let read = reading::read(text);
-        let table = read.table;
-        m = put_agreed(out, m, text, table);
+pub fn put_ticks(out: &mut Output, text: &[u8]) -> fmt::Result {
+    match ask(text, 0) {
+        Ok(_) => put_agreed(out, text, reading::read(text).table)?,
+        Err(refusal) => put_refused(out, refusal)?,
     }
-    put_byte(out, m, b'\n')
+    writeln!(out, "")
 }

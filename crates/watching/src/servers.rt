@@ -1,87 +1,42 @@
 // What is counted of the servers: the free ticks of each full period.
-ghost use Rattle.std.specs.Prelude.{◌≤◌};
+ghost use Rattle.std.specs.Prelude.{◌≤◌, length};
 
-use crate::counting::{TICKS, plus};
 use answers::{ServerAnswer, Short};
-use table::{Server, Table};
+use table::Server;
 
-// Before the first full period is over.
-fn no_answer() -> ServerAnswer {
+// The answer where no full period is over.
+pub fn no_answer() -> ServerAnswer {
     ServerAnswer {
         full: 0,
         short: Short::Never,
     }
 }
 
-// The free ticks of a period with one tick more: it is free if no server above the one with the number holds it.
-fn with_tick(free: u32, number: u32, holder: u32) -> u32 {
-    if holder != 0 {
-        if holder < number {
-            return free;
-        }
-    }
-    plus(free, 1)
-}
-
-// Whether a period ends with a tick.
-fn ends_with(period: u32, finish: u32) -> bool {
-    if period == 0 {
-        return false;
-    }
-    finish % period == 0
-}
-
-// A server's answer, once one more full period is over that had so many free ticks.
-fn after_period(answer: ServerAnswer, free: u32, capacity: u32) -> ServerAnswer {
-    let first = answer.short;
-    let full = plus(answer.full, 1);
-    let Short::Never = first else {
-        return ServerAnswer { full, short: first };
-    };
-    if free < capacity {
-        return ServerAnswer {
-            full,
-            short: Short::First(answer.full),
-        };
-    }
-    ServerAnswer { full, short: first }
+// How many ticks of a period no server above the one with the number holds.
+fn free_ticks(holders: &[u32], number: u32) -> usize {
+    holders
+        .iter()
+        .filter(|holder| **holder == 0 || number <= **holder)
+        .count()
 }
 
 // A server's answer, from who holds each tick.
-fn server_answer(server: Server, number: u32, ticks: usize, holders: &[u32; TICKS]) -> ServerAnswer
-    requires { ticks ≤ 16000 }
+pub fn server_answer(server: Server, number: u32, holders: &[u32]) -> ServerAnswer
+    requires { length holders.now ≤ 16000 }
 {
-    let mut answer = no_answer();
-    let mut free: u32 = 0;
-    let mut i: usize = 0;
-    while i < ticks {
-        free = with_tick(free, number, holders[i]);
-        i += 1;
-        if ends_with(server.period, i as u32) {
-            answer = after_period(answer, free, server.capacity);
-            free = 0;
-        }
+    let period = server.period as usize;
+    if period == 0 {
+        return no_answer();
     }
-    answer
-}
-
-// All servers' answers.
-pub fn server_answers(
-    table: Table,
-    count: usize,
-    ticks: usize,
-    holders: &[u32; TICKS],
-) -> [ServerAnswer; 16]
-    requires { (count ≤ 16) × (ticks ≤ 16000) }
-{
-    let none = no_answer();
-    let mut answers = [none; 16];
-    let mut i: usize = 0;
-    while i < count {
-        let server = table.servers[i];
-        let number = (i as u32) + 1;
-        answers[i] = server_answer(server, number, ticks, holders);
-        i += 1;
+    let first_short = holders
+        .chunks_exact(period)
+        .position(|ticks| free_ticks(ticks, number) < server.capacity as usize)
+        .and_then(|first| u32::try_from(first).ok());
+    ServerAnswer {
+        full: (holders.len() / period) as u32,
+        short: match first_short {
+            Some(first) => Short::First(first),
+            None => Short::Never,
+        },
     }
-    answers
 }
