@@ -16,7 +16,7 @@ use Rattle.refusals.proofs.Numbers.{number_some}
 use Rattle.table.specs.declared.Table.{Table}
 use Rattle.reading.specs.Reading.{reading_of}
 use Rattle.reading.proofs.TurnedAway.{turned_away}
-use Rattle.machine.specs.Machine.{accepts, stepped, refusal, step_of}
+use Rattle.machine.specs.Machine.{accepts, stepped, step_of}
 use Rattle.machine.specs.declared.State.{State}
 use Rattle.opening.specs.Opening.{answer_by, roomy}
 use Rattle.scheduling.specs.Buffers.{Buffers}
@@ -41,6 +41,10 @@ module _ {A : Type 0} where
   accepted_by_number (Ok a) h = refl
   accepted_by_number (Err refusal) h = sym (ne_eqb refusal.number 0 (λ e. absurd (omega (arith, h, e))))
 
+  refused_numbered : (refused : Bool) (ground : Ground) (a : A) → Numbered (pick refused (Err (refused_for ground)) (Ok a))
+  refused_numbered true ground a = number_some ground
+  refused_numbered false ground a = tt
+
 -- ---- each call on a text or a table has such an outcome
 
 pub reading_numbered : (text : List ℕ) → Numbered (reading_of text)
@@ -54,7 +58,7 @@ pub step_numbered : (table : Table) (before : State) → Numbered (step_of table
 unfolding step_of
 step_numbered table before = go (accepts table before)
   where
-    go : (b : Bool) → Numbered (pick b (Ok (stepped table before)) (Err refusal))
+    go : (accepted : Bool) → Numbered (pick accepted (Ok (stepped table before)) (Err (refused_for OutOfStep)))
     go true = tt
     go false = number_some OutOfStep
 
@@ -74,14 +78,8 @@ answer_numbered of told (Err refusal) h = h
 module _ (text : List ℕ) where
   pub who_numbered : (tick : ℕ) (room : Bool) → Numbered (who_of text tick room)
   who_numbered tick false = number_some WorkRoom
-  who_numbered tick true = answer_numbered (λ table. at_tick table tick) at (reading_of text) (reading_numbered text)
-    where
-      at : (table : Table) → Numbered (at_tick table tick)
-      at table = go (leb table.span tick)
-        where
-          go : (b : Bool) → Numbered (pick b (Err (refused_for OutOfStep)) (Ok _))
-          go true = number_some OutOfStep
-          go false = tt
+  who_numbered tick true =
+      answer_numbered (λ table. at_tick table tick) (λ table. refused_numbered (leb table.span tick) OutOfStep _) (reading_of text) (reading_numbered text)
 
   pub analysis_numbered : (room : Bool) → Numbered (analysis_of text room)
   analysis_numbered false = number_some WorkRoom
@@ -89,19 +87,18 @@ module _ (text : List ℕ) where
 
 -- ---- the six work buffers, by the number that is handed out
 
+told_by_number : {A : Type 0} (r : Result A Refusal) {number : ℕ} {a b c d e f a' b' c' d' e' f' : List ℕ} → Numbered r → number ≡ number_in r
+    → Buffers (is_ok r) a b c d e f a' b' c' d' e' f' → Buffers (eqb number 0) a b c d e f a' b' c' d' e' f'
+told_by_number r {number} {a} {b} {c} {d} {e} {f} {a'} {b'} {c'} {d'} {e'} {f'} h p w =
+    subst (λ (accepted : Bool). Buffers accepted a b c d e f a' b' c' d' e' f') (accepted_by_number r h ∙ ap (λ (n : ℕ). eqb n 0) (sym p)) w
+
 module _ (text a b c d e f : List ℕ) {refusal : Refusal} {a' b' c' d' e' f' : List ℕ} where
-  abbrev by_number : Type 0
-  by_number = Buffers (eqb refusal.number 0) a b c d e f a' b' c' d' e' f'
-
-  told_by_number : {A : Type 0} (r : Result A Refusal) → Numbered r → refusal.number ≡ number_in r → Buffers (is_ok r) a b c d e f a' b' c' d' e' f' → by_number
-  told_by_number r h p w =
-      subst (λ (accepted : Bool). Buffers accepted a b c d e f a' b' c' d' e' f') (accepted_by_number r h ∙ ap (λ (n : ℕ). eqb n 0) (sym p)) w
-
   pub tells_by_number : (tick holder runner : ℕ) {holder' runner' : ℕ}
-      → Tells text tick a b c d e f holder runner refusal holder' runner' a' b' c' d' e' f' → by_number
+      → Tells text tick a b c d e f holder runner refusal holder' runner' a' b' c' d' e' f' → Buffers (eqb refusal.number 0) a b c d e f a' b' c' d' e' f'
   tells_by_number tick holder runner p =
       told_by_number (who_of text tick (roomy a b c d e f)) (who_numbered text tick (roomy a b c d e f)) (same_number p.who.refusal_is) p.buffers
 
-  pub analyses_by_number : (n : Counted) (l : Listed) {n' : Counted} {l' : Listed} → Analyses text a b c d e f n l refusal n' l' a' b' c' d' e' f' → by_number
+  pub analyses_by_number : (n : Counted) (l : Listed) {n' : Counted} {l' : Listed}
+      → Analyses text a b c d e f n l refusal n' l' a' b' c' d' e' f' → Buffers (eqb refusal.number 0) a b c d e f a' b' c' d' e' f'
   analyses_by_number n l p =
       told_by_number (analysis_of text (roomy a b c d e f)) (analysis_numbered text (roomy a b c d e f)) (same_number p.answers.refusal_is) p.buffers
