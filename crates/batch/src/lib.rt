@@ -3,11 +3,11 @@
 
 pub mod decoding;
 pub mod fields;
-pub mod inputs;
+mod inputs;
 pub mod output;
 mod steps;
 
-use inputs::Input;
+pub use inputs::answer_lines;
 use output::Output;
 use std::fmt;
 use std::fmt::Write;
@@ -37,30 +37,4 @@ pub fn answer_text<F: FnOnce(&[u8])>(answer: F)
 // Puts the answer to a line that asks for nothing.
 pub fn put_bad(out: &mut Output) -> fmt::Result {
     writeln!(out, "bad")
-}
-
-// Answers each line of a text. What an output holds or writes is never an error.
-fn answer_all<F: Fn(&[u8], &mut Output) -> fmt::Result>(text: &[u8], answer: &F, out: &mut Output)
-    requires { F.IsAlwaysCallable answer.now }
-{
-    for line in text.split_inclusive(|byte| *byte == b'\n') {
-        let _ = answer(line, out);
-    }
-}
-
-// Reads standard input part by part and answers its lines, each handed on with its line feed.
-pub fn answer_lines<F: Fn(&[u8], &mut Output) -> fmt::Result>(answer: F)
-    requires { F.IsAlwaysCallable answer }
-{
-    let mut input = Input::unread();
-    let mut out = Output::new();
-    // a proved loop has to end, and nothing says that the input does: no run has so many turns
-    for _ in 0..u64::MAX {
-        input.read_on();
-        answer_all(input.lines(), &answer, &mut out);
-        if input.has_ended() {
-            break;
-        }
-    }
-    out.flush();
 }

@@ -7,11 +7,15 @@ use call_lines::put_refused;
 use refusals::Refusal;
 use scheduling::{analyse, who_at};
 use std::fmt::Write;
+use std::ops::Range;
 use std::{array, fmt};
 use text_lines::asking::Rooms;
 
 // How many numbers each array has: a guard of 8 behind the largest lent part.
 const GUARDED: usize = 16_016;
+
+// The numbers of an array before a part of it is lent.
+const BEFORE: Range<u32> = 7_000_000..7_016_016;
 
 // A lent work buffer.
 type Lent<'a> = &'a mut [u32];
@@ -61,21 +65,24 @@ impl fmt::Display for Became {
     }
 }
 
-// An array before a part of it is lent.
-fn fresh() -> [u32; GUARDED] {
-    array::from_fn(|place| 7_000_000 + place as u32)
-}
-
 impl Became {
-    // What became of an array, from its lent part and the guard behind it. No number was 0 before.
-    fn of(lent: &[u32], guard: &[u32], before: &[u32]) -> Self {
-        if !before.ends_with(guard) {
-            return Became::Other;
-        }
-        if before.starts_with(lent) {
+    // What became of an array whose first `room` numbers were lent. No number was 0 before.
+    fn of(array: &[u32], room: usize) -> Self {
+        if array
+            .iter()
+            .zip(BEFORE)
+            .all(|(number, before)| *number == before)
+        {
             return Became::Same;
         }
-        if lent.iter().all(|number| *number == 0) {
+        let (lent, guard) = array.split_at(room.min(array.len()));
+        let guards = BEFORE.skip(lent.len());
+        if lent.iter().all(|number| *number == 0)
+            && guard
+                .iter()
+                .zip(guards)
+                .all(|(number, before)| *number == before)
+        {
             return Became::Zero;
         }
         Became::Other
@@ -91,11 +98,10 @@ fn put_said(out: &mut Output, said: Result<Said, Refusal>) -> fmt::Result {
     write!(out, " |")
 }
 
-// Puts what became of six arrays, of each of which the lent part and the guard are given.
-fn put_became(out: &mut Output, parts: [(&[u32], &[u32]); 6]) -> fmt::Result {
-    let before = fresh();
-    for (lent, guard) in parts {
-        write!(out, " {}", Became::of(lent, guard, &before))?;
+// Puts what became of six arrays, of each of which so many numbers were lent.
+fn put_became(out: &mut Output, arrays: [(&[u32; GUARDED], usize); 6]) -> fmt::Result {
+    for (array, room) in arrays {
+        write!(out, " {}", Became::of(array, room))?;
     }
     writeln!(out, "")
 }
@@ -108,7 +114,7 @@ where
     F: FnOnce(Lent, Lent, Lent, Lent, Lent, Lent) -> Result<Said, Refusal>,
     requires { F.IsAlwaysCallable call }
 {
-    let before: [u32; GUARDED] = array::from_fn(|place| 7_000_000 + place as u32);
+    let before: [u32; GUARDED] = array::from_fn(|place| BEFORE.start + place as u32);
     let [
         mut free,
         mut sum,
@@ -126,15 +132,15 @@ where
         &mut spare[..rooms.spare],
     );
     put_said(out, said)?;
-    let parts = [
-        free.split_at(rooms.free),
-        sum.split_at(rooms.sum),
-        part.split_at(rooms.part),
-        held.split_at(rooms.held),
-        running.split_at(rooms.running),
-        spare.split_at(rooms.spare),
+    let arrays = [
+        (&free, rooms.free),
+        (&sum, rooms.sum),
+        (&part, rooms.part),
+        (&held, rooms.held),
+        (&running, rooms.running),
+        (&spare, rooms.spare),
     ];
-    put_became(out, parts)
+    put_became(out, arrays)
 }
 
 // Puts the line of the analysis.
