@@ -10,7 +10,7 @@ ghost use Rattle.scheduling.specs.Analysing.{Analyses};
 
 use answering::{Notes, answer_all, first_marked, no_notes};
 use answers::Analysis;
-use buffers::clear_all;
+use buffers::work::Work;
 use opening::open_text;
 use refusals::Refusal;
 use table::Table;
@@ -67,8 +67,16 @@ fn work_out(
             notes,
         };
     }
-    let notes = answer_all(table, tick, free, sum, part, held, running, spare);
-    clear_all(free, sum, part, held, running, spare);
+    let mut work = Work {
+        free,
+        sum,
+        part,
+        held,
+        running,
+        spare,
+    };
+    let notes = answer_all(table, tick, &mut work);
+    work.clear();
     Worked {
         refusal,
         table,
