@@ -3,10 +3,12 @@
 
 ghost use Rattle.std.specs.Prelude.{◌≡◌, false, ◌≤◌, length, get_or};
 ghost use Rattle.table.specs.Places.{Obeyed, first_of};
+ghost use Rattle.buffers.specs.Work.{Same};
 ghost use Rattle.answering.specs.Noted.{NoNotes, AllNoted};
 
 use answers::{Response, ServerAnswer};
 use buffers::put;
+use buffers::work::Work;
 use judging::covering::covers;
 use judging::periods::answer_server;
 use noting::{TaskNotes, answer_tasks};
@@ -47,35 +49,23 @@ pub fn no_notes() -> Notes
 }
 
 // Notes the servers and their tasks, going down the servers.
-pub fn answer_all(
-    table: Table,
-    tick: u32,
-    free: &mut [u32],
-    sum: &mut [u32],
-    part: &mut [u32],
-    held: &mut [u32],
-    running: &mut [u32],
-    spare: &mut [u32],
-) -> Notes
-    requires { Obeyed table × (16000 ≤ length free.old) × (16000 ≤ length sum.old) × (16000 ≤ length part.old) × (16000 ≤ length held.old)
-        × (16000 ≤ length running.old) × (16000 ≤ length spare.old) }
-    ensures { AllNoted table tick result }
+pub fn answer_all(table: Table, tick: u32, work: &mut Work<'_>) -> Notes
+    requires { Obeyed table }
+    ensures same { Same work.old work.new }
+    ensures noted { AllNoted table tick result }
 {
     let mut notes = no_notes();
-    let mut n = put(free, 0, 0, table.span);
+    let mut n = put(work.free, 0, 0, table.span);
     for (i, server) in table.servers[..table.servers_n].iter().enumerate() {
-        notes.servers.answers[i] = answer_server(*server, table.span, &free[..n]);
-        let counts = hold_server(table, i, n, free, sum, part, held, spare);
-        notes.servers.holds[i] = covers(&held[..counts.taken], tick);
+        notes.servers.answers[i] = answer_server(*server, table.span, work.free_curve(n));
+        let counts = hold_server(table, i, n, work);
+        notes.servers.holds[i] = covers(work.held_curve(counts.taken), tick);
         answer_tasks(
             table,
             tick,
             i as u32 + 1,
             counts.taken,
-            held,
-            part,
-            running,
-            spare,
+            work,
             &mut notes.tasks,
         );
         n = counts.left;

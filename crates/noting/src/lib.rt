@@ -4,9 +4,11 @@
 ghost use Rattle.std.specs.Prelude.{◌≡◌, suc, ℕ, ◌+◌, ◌≤◌, ◌<◌, length, take};
 ghost use Rattle.table.specs.Places.{Obeyed};
 ghost use Rattle.schedule.specs.Curves.{held_of};
+ghost use Rattle.buffers.specs.Work.{Same};
 ghost use Rattle.noting.specs.Noted.{TasksNoted, of_below};
 
 use answers::Response;
+use buffers::work::Work;
 use judging::covering::covers;
 use judging::jobs::judge;
 use serving::share;
@@ -26,22 +28,28 @@ pub fn answer_tasks(
     tick: u32,
     server: u32,
     n: usize,
-    held: &mut [u32],
-    part: &mut [u32],
-    running: &mut [u32],
-    spare: &mut [u32],
+    work: &mut Work<'_>,
     notes: &mut TaskNotes,
 )
-    requires { Obeyed table × ((i : ℕ) → server ≡ suc i → (i < table.servers_n) × (take n held.old ≡ held_of table i)) × (0 < server)
-        × (n ≤ length held.old) × (16000 ≤ length held.old) × (16000 ≤ length part.old) × (16000 ≤ length running.old)
-        × (16000 ≤ length spare.old) × TasksNoted table tick (of_below table server) notes.old }
-    ensures { TasksNoted table tick (of_below table (server + 1)) notes.new }
+    requires { Obeyed table × ((i : ℕ) → server ≡ suc i → (i < table.servers_n) × (take n work.old.held.now ≡ held_of table i)) × (0 < server)
+        × (n ≤ length work.old.held.now) × TasksNoted table tick (of_below table server) notes.old }
+    ensures same { Same work.old work.new }
+    ensures free { work.new.free.now ≡ work.old.free.now }
+    ensures noted { TasksNoted table tick (of_below table (server + 1)) notes.new }
 {
     let mut left = n;
     for (j, task) in table.tasks[..table.tasks_n].iter().enumerate() {
         if task.server == server {
-            let counts = share(*task, table.span, left, held, part, running, spare);
-            let ticks = &running[..counts.taken];
+            let counts = share(
+                *task,
+                table.span,
+                left,
+                work.held,
+                work.part,
+                work.running,
+                work.spare,
+            );
+            let ticks = &work.running[..counts.taken];
             notes.answers[j] = judge(*task, table.span, ticks);
             notes.runs[j] = covers(ticks, tick);
             left = counts.left;

@@ -1,12 +1,13 @@
 -- What was worked out is what the two calls answer. Assumes nothing.
 use Prim.Native.Nat.{ℕ, ◌≤◌}
-use mathlib.Core.Path.{◌≡◌, sym, ap, ◌∙◌}
+use mathlib.Core.Path.{◌≡◌}
 use mathlib.Core.List.{List}
 use mathlib.Core.Bool.{Bool}
 use borrow.Author.Tests.{lt-leb}
 use Rattle.std.specs.Prelude.{Ok}
 use Rattle.table.proofs.Obeyed.{servers_most, tasks_most}
 use Rattle.opening.specs.Opening.{opened_of}
+use Rattle.opening.proofs.Opened.{opened_ready}
 use Rattle.answering.specs.Noted.{AllNoted, holds_at}
 use Rattle.noting.specs.Noted.{runs_at}
 use Rattle.answering.proofs.Marked.{marked_first}
@@ -14,19 +15,19 @@ use Rattle.scheduling.specs.declared.Worked.{Worked}
 use Rattle.scheduling.specs.Working.{told_by, listed_by}
 use Rattle.scheduling.specs.Asking.{who_of}
 use Rattle.scheduling.specs.Analysing.{analysis_of}
-use Rattle.scheduling.proofs.Openings.{Ready, ready_by, ready_obeyed}
+
 
 module _ (text : List ℕ) (tick : ℕ) (room : Bool) (w : Worked) (e : opened_of text tick room ≡ Ok w.table) (n : AllNoted w.table tick w.notes) where
   pub told_is : who_of text tick room ≡ Ok (told_by w)
   told_is =
-      let r = ready_by text tick room w.table e in
+      let r = opened_ready text tick room e in
       let holder = marked_first (holds_at w.table tick) w.table.servers_n w.notes.servers.holds n.holds in
       let runner = marked_first (runs_at w.table tick) w.table.tasks_n w.notes.tasks.runs n.runs in
       rw (holder, runner, r.roomy, r.accepted, lt-leb w.table.span tick r.within)
 
   pub listed_is : analysis_of text room ≡ Ok (listed_by w)
-  listed_is = let r = ready_by text tick room w.table e in rw (n.servers, n.tasks, r.roomy, r.accepted)
+  listed_is = let r = opened_ready text tick room e in rw (n.servers, n.tasks, r.roomy, r.accepted)
 
   -- the table has no more entries than there are places
   pub works_few : (w.table.servers_n ≤ 16) × (w.table.tasks_n ≤ 64)
-  works_few = let ok = ready_obeyed text tick room w.table e in (servers_most w.table ok, tasks_most w.table ok)
+  works_few = let r = opened_ready text tick room e in (servers_most w.table r.obeyed, tasks_most w.table r.obeyed)

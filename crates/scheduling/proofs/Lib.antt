@@ -1,4 +1,3 @@
-pub mod Calls
 pub mod Openings
 pub mod Answered
 pub mod Outcomes

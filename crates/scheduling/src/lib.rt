@@ -10,7 +10,7 @@ ghost use Rattle.scheduling.specs.Analysing.{Analyses};
 
 use answering::{Notes, answer_all, first_marked};
 use answers::Analysis;
-use buffers::clear_all;
+use buffers::work::Work;
 use opening::open_text;
 use refusals::Refusal;
 use table::Table;
@@ -55,8 +55,16 @@ fn work_out(
         spare.len(),
     ];
     let table = open_text(text, tick, rooms)?;
-    let notes = answer_all(table, tick, free, sum, part, held, running, spare);
-    clear_all(free, sum, part, held, running, spare);
+    let mut work = Work {
+        free,
+        sum,
+        part,
+        held,
+        running,
+        spare,
+    };
+    let notes = answer_all(table, tick, &mut work);
+    work.clear();
     Ok(Worked { table, notes })
 }
 

@@ -6,10 +6,12 @@ ghost use Rattle.windows.specs.Windows.{fit};
 ghost use Rattle.table.specs.Places.{Obeyed};
 ghost use Rattle.schedule.specs.Curves.{demand_of, held_in, without};
 ghost use Rattle.buffers.specs.Parts.{Curve, Wrote};
+ghost use Rattle.buffers.specs.Work.{Same};
 ghost use Rattle.demands.specs.Walks.{TaskObeyed};
 ghost use Rattle.serving.specs.Wanted.{wanted_of};
 
 use buffers::put;
+use buffers::work::Work;
 use demands::releasing::demand;
 use demands::summing::sum_tasks;
 use holding::{Counts, hold};
@@ -27,32 +29,24 @@ fn wanted(table: Table, i: usize, sum: &mut [u32], part: &mut [u32], spare: &mut
 }
 
 // Writes the ticks that a server holds of the free curve that the first `n` numbers of `free` are, and leaves there those that it does not.
-pub fn hold_server(
-    table: Table,
-    i: usize,
-    n: usize,
-    free: &mut [u32],
-    sum: &mut [u32],
-    part: &mut [u32],
-    held: &mut [u32],
-    spare: &mut [u32],
-) -> Counts
-    requires { Obeyed table × (i < table.servers_n) × Curve free.old n table.span × (16000 ≤ length sum.old) × (16000 ≤ length part.old)
-        × (16000 ≤ length held.old) × (16000 ≤ length spare.old) }
-    ensures { Wrote held.old held.new result.taken (held_in table i (take n free.old))
-        × Wrote free.old free.new result.left (without table.span (take n free.old) (held_in table i (take n free.old))) }
+pub fn hold_server(table: Table, i: usize, n: usize, work: &mut Work<'_>) -> Counts
+    requires { Obeyed table × (i < table.servers_n) × Curve work.old.free.now n table.span }
+    ensures same { Same work.old work.new }
+    ensures held { Wrote work.old.held.now work.new.held.now result.taken (held_in table i (take n work.old.free.now)) }
+    ensures left { Wrote work.old.free.now work.new.free.now result.left
+        (without table.span (take n work.old.free.now) (held_in table i (take n work.old.free.now))) }
 {
     let server = table.servers[i];
-    let m = wanted(table, i, sum, part, spare);
+    let m = wanted(table, i, work.sum, work.part, work.spare);
     let counts = hold(
         server.capacity,
         server.period,
-        &sum[..m],
-        &free[..n],
-        held,
-        spare,
+        &work.sum[..m],
+        &work.free[..n],
+        work.held,
+        work.spare,
     );
-    free[..counts.left].copy_from_slice(&spare[..counts.left]);
+    work.free[..counts.left].copy_from_slice(&work.spare[..counts.left]);
     counts
 }
 

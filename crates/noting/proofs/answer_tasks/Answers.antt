@@ -1,4 +1,4 @@
-use Rattle.std.proofs.Common.{suc, ◌≡◌, ◌-◌, arith}
+use Rattle.std.proofs.Common.{suc, ◌≡◌, ◌-◌, refl, arith, rules}
 use Rattle.std.proofs.lemmas.List.{length-take-le}
 use Rattle.table.specs.Places.{task_at}
 use Rattle.table.proofs.Obeyed.{span_some, span_most, task_deadline}
@@ -12,7 +12,11 @@ pub loop-j-init : goal.loop-j-init
 loop-j-init c =
     let a = c.args in
     let placed = c.requires.1 (a.server - 1) (omega (arith, c.requires.2)) in
-    answering_starts a.table a.server (left_all a.table (a.server - 1) a.held.now a.n c.requires.3 placed.1) c.requires.8
+    record {
+      same = search rules;
+      free = refl;
+      noted = answering_starts a.table a.server (left_all a.table (a.server - 1) a.work.now.held.now a.n c.requires.3 placed.1) c.requires.4;
+    }
 
 pub share-counts-requires : goal.share-counts-requires
 share-counts-requires c =
@@ -23,10 +27,10 @@ share-counts-requires c =
       rw (task_is table p.0 _ h) (task_obeyed table p.0 _ (counted table p.0 _ h)),
       span_some table p.0,
       span_most table p.0,
-      left_curve c.loop-j.invariant.left p.0 placed.0 (omega (arith, p.4)),
-      omega (arith, p.5),
-      omega (arith, p.6),
-      omega (arith, p.7),
+      left_curve c.loop-j.invariant.noted.left p.0 placed.0 c.loop-j.work.roomy.of_held,
+      c.loop-j.work.roomy.of_part,
+      c.loop-j.work.roomy.of_running,
+      c.loop-j.work.roomy.of_spare,
     )
 
 pub judge-requires : goal.judge-requires
@@ -43,7 +47,7 @@ judge-requires c =
       task_obeyed table p.0 _ few,
       (task_deadline table p.0 _ few).1,
       span_most table p.0,
-      served_plain c.loop-j.invariant.left few place p.0 served,
+      served_plain c.loop-j.invariant.noted.left few place p.0 served,
     )
 
 pub loop-j-preserved : goal.loop-j-preserved
@@ -60,11 +64,15 @@ loop-j-preserved c =
           let served = rw same at w.share-counts.ensures.0 in
           let left = rw same at w.share-counts.ensures.1 in
           let judged = rw same at w.judge.ensures in
-          rw (w.held-is, w.left-is, w.notes-is) (answering_own v p.0 p.2 few own served left _ judged _ w.covers.ensures)
+          rw (w.work-is, w.left-is, w.notes-is) (record {
+            same = search rules;
+            free = v.free;
+            noted = answering_own v.noted p.0 p.2 few own served left _ judged _ w.covers.ensures;
+          })
       | else-task-server w ↦
           let other = rw same at w.if-task-server.false in
-          rw (w.held-is, w.left-is, w.notes-is) (answering_other v p.0 p.2 few other)
+          rw (w.work-is, w.left-is, w.notes-is) (record { same = v.same; free = v.free; noted = answering_other v.noted p.0 p.2 few other })
     ]
 
-pub returns : goal.returns
-returns c = answering_ends c.loop-j.invariant (omega (arith, c.loop-j-test.false, length-take-le c.args.table.tasks_n c.args.table.tasks c.requires.0.tasks))
+pub returns-clause-noted : goal.returns-clause-noted
+returns-clause-noted c = answering_ends c.loop-j.invariant.noted (omega (arith, c.loop-j-test.false, length-take-le c.args.table.tasks_n c.args.table.tasks c.requires.0.tasks))

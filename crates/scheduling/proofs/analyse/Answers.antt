@@ -1,5 +1,5 @@
 -- What was worked out is what it answers.
-use Rattle.std.proofs.Common.{◌≡◌, sym, refl}
+use Rattle.std.proofs.Common.{sym, refl}
 use Rattle.std.proofs.lemmas.Result.{err_from_is_err_and}
 use Rattle.opening.specs.Opening.{roomy}
 use Rattle.scheduling.proofs.Answered.{listed_is}
