@@ -37,12 +37,8 @@ pub fn first_server(state: State, table: Table, firsts: [u32; 16]) -> u32
 {
     let servers = &table.servers[..table.servers_n];
     let mut offered = servers.iter().zip(&state.budgets).zip(&firsts);
-    let place = offered.position(|((server, &budget), &first)| may_hold(
-        budget,
-        server.kind,
-        first,
-    ));
-    place.map_or(0, |i| (i as u32) + 1)
+    let at = offered.position(|((server, &budget), &first)| may_hold(budget, server.kind, first));
+    at.map_or(0, |i| (i as u32) + 1)
 }
 
 // The holder's first task with waiting work, or 0.

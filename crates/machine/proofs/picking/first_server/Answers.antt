@@ -9,9 +9,9 @@ use Rattle.machine.proofs.picking.first_server.Goals as goal
 
 pub returns : goal.returns
 returns c =
-    let number : c.map_or.result ≡ number_from c.position-place.result = search rules in
-    number ∙ server_found c.args.table c.args.state c.args.firsts c.requires.0 c.requires.1 (search rules) (search rules) c.position-place.result
-    (IsFirst-from_position c.position-place.new.self _ _ (λ o. holds_it o ≡ true) (λ o. holds_it o ≡ false) c.position-place.ensures.ran
+    let number : c.map_or.result ≡ number_from c.position-at.result = search rules in
+    number ∙ server_found c.args.table c.args.state c.args.firsts c.requires.0 c.requires.1 (search rules) (search rules) c.position-at.result
+    (IsFirst-from_position c.position-at.new.self _ _ (λ o. holds_it o ≡ true) (λ o. holds_it o ≡ false) c.position-at.ensures.ran
     (YieldsList-from_zip
     (YieldsList-at c.zip-offered.ensures.first (YieldsList-from_zip (YieldsList-at c.zip.ensures.first (YieldsList-from_slice (servers_of c.args.table) (search rules))) (YieldsList-from_slice c.args.state.budgets c.zip.ensures.second.0)))
     (YieldsList-from_slice c.args.firsts c.zip-offered.ensures.second.0))
