@@ -6,7 +6,7 @@ use native.Mathlib.Numerals.{add-one}
 use native.Mathlib.Omega.{arith}
 use lib.ListN.{length, get_or, take, set, length-set}
 use lib.Seq.{take_all, length-take-le}
-use Rattle.handing.specs.Handing.{each, in_front}
+use Rattle.handing.specs.Handing.{in_front}
 
 module _ {A B : Type 0} (f : A → B) where
   -- the numbers of the places below i are written, and no others
@@ -15,12 +15,10 @@ module _ {A B : Type 0} (f : A → B) where
     pub written : m ≡ in_front f i l old
 
   pub listed_none : (l : List A) (old : List B) → ListedTo l 0 old old
-  unfolding each
   listed_none l old = record { long = refl; written = refl }
 
   -- the number of one place more, behind those that are written
   front_next : (l : List A) (i : ℕ) (old : List B) (d : A) → i < length l → i < length old → set (in_front f i l old) i (f (get_or l i d)) ≡ in_front f (suc i) l old
-  unfolding each
   front_next [] i old d h k = absurd (omega arith)
   front_next (a ∷ l) i [] d h k = absurd (omega arith)
   front_next (a ∷ l) zero (b ∷ old) d h k = refl

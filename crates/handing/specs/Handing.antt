@@ -1,5 +1,5 @@
 -- What a caller in C gets of the curve calls, of the report and of an analysis: 0, or the number of the refusal, and numbers through pointers.
-use Rattle.std.specs.Prelude.{ℕ, ◌≡◌, List, [], ◌∷◌, ◌++◌, ℤ, pos, take, drop, Option, Some, None, Result}
+use Rattle.std.specs.Prelude.{ℕ, ◌≡◌, List, [], ◌∷◌, ◌++◌, ℤ, pos, map, take, drop, Option, Some, None, Result}
 use Rattle.refusals.specs.Outcomes.{front}
 use Rattle.refusals.specs.declared.Refusal.{Refusal}
 use Rattle.entries.specs.Entries.{rows}
@@ -54,15 +54,10 @@ margin_number (response.Worst w) = w.margin
 margin_number (response.Unfinished release) = pos 0
 margin_number response.None = pos 0
 
--- one number of each entry
-unfoldable pub each : {A B : Type 0} → (A → B) → List A → List B
-each f [] = []
-each f (a ∷ l) = f a ∷ each f l
-
 -- "each result in a lent buffer starts at its front, and the rest is unchanged": one number of each of the first n entries, then the rest of the array
 -- as it was
 abbrev pub in_front : {A B : Type 0} → (A → B) → ℕ → List A → List B → List B
-in_front f n l old = each f (take n l) ++ drop n old
+in_front f n l old = map f (take n l) ++ drop n old
 
 -- ---- the arrays of an analysis
 

@@ -1,4 +1,4 @@
-// What the two calls on a text and six work buffers hand out.
+// What the two calls on a text and six work buffers hand out. C lends a place for each number and each array: so they are no structs here.
 ghost use Rattle.std.specs.Prelude.{◌≤◌, IfOk};
 ghost use Rattle.handing.specs.Handing.{HandsWho, HandsAnalysis};
 

@@ -12,13 +12,10 @@ use refusals::Refusal;
 pub fn hand<T: Copy>(outcome: Result<T, Refusal>, place: &mut T) -> u32
     ensures { (result ≡ number_in outcome) × (place.new ≡ handed (λ n. n) outcome place.old) }
 {
-    match outcome {
-        Ok(value) => {
-            *place = value;
-            0
-        }
-        Err(refusal) => refusal.number,
+    if let Ok(value) = &outcome {
+        *place = *value;
     }
+    number_in(&outcome)
 }
 
 // Hands out how many numbers fitting wrote.

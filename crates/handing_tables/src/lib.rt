@@ -1,4 +1,5 @@
 // What the calls for C on a table hand out, through places to write to: line and place of a refusal, what is read of a text, a step of the machine.
+// C lends a place for each number and each array: so they are no structs here.
 #![tactic(auto)]
 
 ghost use Rattle.std.specs.Prelude.{◌≡◌, ◌≤◌, IfOk};
@@ -64,7 +65,7 @@ pub fn hand_reading(
 }
 
 // Goes one tick on with the machine of the table, if one was read, and hands out the state, holder and runner. Where no step is done, the state stays
-// as it is, with 0 for holder and runner. State and answer are no structs here: C lends a place for each number and each array.
+// as it is, with 0 for holder and runner.
 fn take_step(
     read: Result<Table, Refusal>,
     tick: &mut u32,
