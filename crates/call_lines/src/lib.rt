@@ -16,6 +16,9 @@ const GUARDED: usize = 4104;
 // How many bytes behind the lent part are shown.
 const GUARD: usize = 8;
 
+// The hexadecimal digits by their values.
+const DIGITS: &[u8; 16] = b"0123456789abcdef";
+
 // Puts a refusal: its number, line and place.
 pub fn put_refused(out: &mut Output, refusal: Refusal) -> fmt::Result {
     write!(
@@ -49,7 +52,9 @@ pub fn put_lent<F: FnOnce(&mut [u8]) -> Result<usize, Refusal>>(
     put_written(out, written)?;
     write!(out, " | ")?;
     for byte in &bytes[..room + GUARD] {
-        write!(out, "{byte:02x}")?;
+        // `{byte:02x}` does the same in three times the time
+        out.put_byte(DIGITS[usize::from(byte / 16)]);
+        out.put_byte(DIGITS[usize::from(byte % 16)]);
     }
     writeln!(out, "")
 }

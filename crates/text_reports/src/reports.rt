@@ -14,7 +14,6 @@ const REPORT: usize = 4096;
 const TEXT: usize = 2603;
 
 // Puts the report of a text and an empty line.
-#[tactic(auto, using(putting::proofs::Rooms::count_fits))]
 pub fn put_report(out: &mut Output, text: &[u8]) -> fmt::Result {
     let mut bytes = [0u8; REPORT];
     let Ok(count) = reporting::report(text, &mut bytes) else {
