@@ -9,9 +9,10 @@ use Rattle.windows.specs.Windows.{cover}
 use Rattle.buffers.proofs.Fronts.{plain_room}
 use Rattle.holding.specs.declared.Place.{Place}
 use Rattle.buffers.specs.Parts.{PlainBelow, Curve, Drawn, with_window}
-use Rattle.holding.specs.Pieces.{held_from, left_from, window_behind, Leaves, Holds, Served}
+use Rattle.holding.specs.Pieces.{held_from, left_from, Leaves, Holds, Served}
 use Rattle.holding.proofs.HeldBlocks.{held_not_free}
 use Rattle.holding.proofs.DrawnSoFar.{DrawnBelow, drawn_none, drawn_curve, drawn_on, drawn_window, drawn_all}
+use Rattle.holding.proofs.Standing.{Behind}
 use Rattle.holding.proofs.HoldTurns.{Given, Stands, Turn, turn_free, turn_idle, turn_left, ticks_held, stands_left, stands_served}
 
 pub record Draws (C T : ℕ) (demand free held₀ left₀ held left : List ℕ) (n m at : ℕ) : Type 0 where
@@ -60,13 +61,13 @@ module _ {C T : ℕ} {demand free : List ℕ} {from : ℕ} {w : Place} {i : ℕ}
 
   pub turn_held : {held₀ left₀ held left out : List ℕ} {n m k s stop : ℕ} {r : Place} → w.at ≡ s → Draws C T demand free held₀ left₀ held left n m from
       → stop ≤ get_or free (i + 1) 0 → Holds demand w stop → Drawn held out k (with_window (take n held) s stop) → Served demand w stop r
-      → Stands C T demand free r (window_behind free i r.at) × Draws C T demand free held₀ left₀ out left k m r.at
-  turn_held e d l q p v = (stands_served u l q v, rw v.there (draws_held d l q (rw e p)))
+      → {index : ℕ} → Behind free i r.at index → Stands C T demand free r index × Draws C T demand free held₀ left₀ out left k m r.at
+  turn_held e d l q p v b = (stands_served u l q v b, rw v.there (draws_held d l q (rw e p)))
 
   pub turn_left_over : {held₀ left₀ held left out : List ℕ} {n m k s stop : ℕ} → w.at ≡ s → Draws C T demand free held₀ left₀ held left n m from
       → w.at < stop → stop ≤ get_or free (i + 1) 0 → Leaves demand w stop → Drawn left out k (with_window (take m left) s stop)
-      → Stands C T demand free (record w { at = stop }) (window_behind free i stop) × Draws C T demand free held₀ left₀ held out n k stop
-  turn_left_over e d k l q p = (stands_left u k l q, draws_left d k l q (rw e p))
+      → {index : ℕ} → Behind free i stop index → Stands C T demand free (record w { at = stop }) index × Draws C T demand free held₀ left₀ held out n k stop
+  turn_left_over e d k l q p b = (stands_left u k l q b, draws_left d k l q (rw e p))
 
 -- ---- no free window is left
 

@@ -8,10 +8,10 @@ use Rattle.windows.specs.Windows.{cover, upto}
 use Rattle.windows.proofs.Counts.{upto_rises}
 use Rattle.holding.specs.declared.Place.{Place}
 use Rattle.buffers.specs.Parts.{PlainBelow}
-use Rattle.holding.specs.Pieces.{held_from, first_place, window_behind, Entered, Offered, Holds, Leaves, done, later, spent, Moved, part, whole, Served}
+use Rattle.holding.specs.Pieces.{held_from, first_place, Entered, Offered, Holds, Leaves, done, later, spent, Moved, part, whole, Served}
 use Rattle.windows.proofs.WindowsAt.{WindowAt, window_at, window_below}
 use Rattle.holding.proofs.HeldBlocks.{upto_still, upto_ones, held_not_free, idle_done, idle_spent, busy_block}
-use Rattle.holding.proofs.Standing.{Wants, wants_first, wants_on, wants_part, wants_whole, wants_comes, Paced, Under, paced_first, paced_enter, paced_on, paced_served, Offers, offers_first, offers_next}
+use Rattle.holding.proofs.Standing.{Wants, wants_first, wants_on, wants_part, wants_whole, wants_comes, Paced, Under, paced_first, paced_enter, paced_on, paced_served, Offers, Behind, offers_first, offers_next}
 
 -- what `hold` is given
 pub record Given (T : ℕ) (demand free : List ℕ) : Type 0 where
@@ -122,17 +122,18 @@ module _ {C T : ℕ} {demand free : List ℕ} {from : ℕ} {w : Place} {i : ℕ}
 
   -- ---- where the walk stands behind a piece
 
-  turn_offers : (stop : ℕ) → w.at < stop → stop ≤ get_or free (i + 1) 0 → Offers free (window_behind free i stop) stop
-  turn_offers stop k l = offers_next u.given.offered.plain u.offers.even (omega (arith, u.window.pair)) u.low k l
+  turn_offers : {stop n : ℕ} → w.at < stop → stop ≤ get_or free (i + 1) 0 → Behind free i stop n → Offers free n stop
+  turn_offers k l b = offers_next u.given.offered.plain u.offers.even (omega (arith, u.window.pair)) u.low k l b
 
-  pub stands_left : {stop : ℕ} → w.at < stop → stop ≤ get_or free (i + 1) 0 → Leaves demand w stop → Stands C T demand free (record w { at = stop }) (window_behind free i stop)
-  stands_left {stop} k l q =
+  pub stands_left : {stop : ℕ} → w.at < stop → stop ≤ get_or free (i + 1) 0 → Leaves demand w stop → {n : ℕ} → Behind free i stop n
+      → Stands C T demand free (record w { at = stop }) n
+  stands_left {stop} k l q b =
       let idle = turn_left stop q in
       record {
         most = omega (arith, u.most);
         wants = wants_on u.wants (upto_still (held_from C T demand free) w.at stop (omega arith) idle);
         paced = paced_on u.given.some u.under stop (omega arith) idle;
-        offers = turn_offers stop k l;
+        offers = turn_offers k l b;
       }
 
   wants_served : {stop : ℕ} {r : Place} → Holds demand w stop → upto (held_from C T demand free) stop + w.at ≡ upto (held_from C T demand free) w.at + stop
@@ -143,12 +144,12 @@ module _ {C T : ℕ} {demand free : List ℕ} {from : ℕ} {w : Place} {i : ℕ}
       rw (d, v) (wants_whole u.given.wanted.plain u.wants (omega (arith, q.pair)) e k)
 
   pub stands_served : {stop : ℕ} {r : Place} → stop ≤ get_or free (i + 1) 0 → Holds demand w stop → Served demand w stop r
-      → Stands C T demand free r (window_behind free i r.at)
-  stands_served {stop} {r} l q p =
+      → {n : ℕ} → Behind free i r.at n → Stands C T demand free r n
+  stands_served {stop} {r} l q p b =
       let e = upto_ones (held_from C T demand free) w.at stop (omega (arith, q.some)) (ticks_held stop l q) in
       record {
         most = omega (arith, p.there, u.most);
         wants = rw p.there (wants_served q e p.moved);
         paced = rw (p.there, p.until) (paced_served u.given.some u.under stop r.budget (omega (arith, q.some)) q.period e p.budget);
-        offers = rw p.there (turn_offers stop q.some l);
+        offers = rw p.there (turn_offers q.some l (rw p.there at b));
       }

@@ -3,3 +3,4 @@ pub mod Standing
 pub mod HoldTurns
 pub mod DrawnSoFar
 pub mod HoldDraws
+pub mod Ahead

@@ -9,13 +9,12 @@ use native.Mathlib.Numerals.{add-two}
 use native.Mathlib.Nat.{zero-mod, mod-lt, mod-eq_of_lt, mod-add-mod}
 use native.Mathlib.Decide.{dec_le, dec_lt}
 use lib.ListN.{length, get_or}
-use borrow.Author.Tests.{le-leb, lt-leb}
 use Rattle.windows.specs.Windows.{cover, is_plain, upto}
 use Rattle.windows.specs.Servers.{so_far}
 use Rattle.windows.proofs.Ticks.{plain_apart}
 use Rattle.windows.proofs.Counts.{upto_rises, upto_none, upto_over}
 use Rattle.holding.specs.declared.Place.{Place}
-use Rattle.holding.specs.Pieces.{window_behind, Entered}
+use Rattle.holding.specs.Pieces.{Entered}
 use Rattle.windows.proofs.WindowsAt.{Even, WindowAt, first_gap, window_at}
 use Rattle.holding.proofs.HeldBlocks.{upto_still, upto_ones, end_turns, so_far_later, so_far_none}
 
@@ -213,24 +212,27 @@ offers_first free p = record {
   gap = λ t k l. first_gap free 0 t (plain_apart 0 free p) l;
 }
 
-pub offers_next : {free : List ℕ} {i at stop : ℕ} → is_plain free ≡ true → Even i → i < length free → get_or free i 0 ≤ at → at < stop → stop ≤ get_or free (i + 1) 0
-    → Offers free (window_behind free i stop) stop
-offers_next {free} {i} {at} {stop} p ev k l m n = go (dec_le (get_or free (i + 1) 0) stop)
+-- index k is that of the window at i, or of the next one if that ends at `stop` or before
+pub record Behind (free : List ℕ) (i stop k : ℕ) : Type 0 where
+  pub used : get_or free (i + 1) 0 ≤ stop → k ≡ i + 2
+  pub kept : stop < get_or free (i + 1) 0 → k ≡ i
+
+pub offers_next : {free : List ℕ} {i at stop k : ℕ} → is_plain free ≡ true → Even i → i < length free → get_or free i 0 ≤ at → at < stop → stop ≤ get_or free (i + 1) 0
+    → Behind free i stop k → Offers free k stop
+offers_next {free} {i} {at} {stop} {k} p ev there l m n b = go (dec_le (get_or free (i + 1) 0) stop)
   where
     win : WindowAt 0 free i
-    win = window_at free i p ev k
+    win = window_at free i p ev there
 
     ev2 : Even (i + 2)
     ev2 = rw add-two ev
 
-    go : Dec (get_or free (i + 1) 0 ≤ stop) → Offers free (window_behind free i stop) stop
+    go : Dec (get_or free (i + 1) 0 ≤ stop) → Offers free k stop
     go (yes q) =
-        rw (le-leb (get_or free (i + 1) 0) stop q)
+        rw (b.used q)
         (record {
           even = ev2;
           ends = λ o. omega (arith, win.next o, (window_at free (i + 2) p ev2 o).rises);
           gap = λ t r f. win.gap t (omega arith) f;
         })
-    go (no q) =
-        rw (lt-leb (get_or free (i + 1) 0) stop (omega arith))
-        (record { even = ev; ends = λ o. omega arith; gap = λ t r f. absurd (omega (arith, f k)) })
+    go (no q) = rw (b.kept (omega arith)) (record { even = ev; ends = λ o. omega arith; gap = λ t r f. absurd (omega (arith, f there)) })

@@ -1,8 +1,7 @@
 -- How the walk over a server's free ticks goes, piece by piece: cited by the contracts of private functions only.
-use Rattle.std.specs.Prelude.{ℕ, ◌+◌, ◌-◌, ◌%◌, ◌≤◌, ◌<◌, ◌≡◌, List, length, get_or, leb}
+use Rattle.std.specs.Prelude.{ℕ, ◌+◌, ◌-◌, ◌%◌, ◌≤◌, ◌<◌, ◌≡◌, List, length, get_or}
 use Rattle.windows.specs.Windows.{cover}
 use Rattle.windows.specs.Servers.{held}
-use Rattle.basics.specs.Choice.{pick}
 use Rattle.holding.specs.declared.Place.{Place}
 use Rattle.holding.specs.declared.Piece.{Piece}
 use Rattle.holding.specs.declared.Piece.TheVariants.{Held, Left}
@@ -17,10 +16,6 @@ left_from C T demand free t = cover free t - held_from C T demand free t
 -- before the first tick, with no period under way
 abbrev pub first_place : List ℕ → Place
 first_place demand = record { demand = 0; wanted = get_or demand 0 0; at = 0; until = 0; budget = 0 }
-
--- the index of the window at f, or of the next one if that ends at `stop` or before
-abbrev pub window_behind : List ℕ → ℕ → ℕ → ℕ
-window_behind free f stop = pick (leb (get_or free (f + 1) 0) stop) (f + 2) f
 
 -- the place w, gone on to `at`: a period that is over is followed by the one that `at` lies in
 pub record Entered (C T : ℕ) (w : Place) (at : ℕ) (r : Place) : Type 0 where

@@ -3,7 +3,7 @@
 
 ghost use Rattle.std.specs.Prelude.{◌≡◌, ◌+◌, ◌-◌, ◌%◌, ◌≤◌, ◌<◌, length, get_or};
 ghost use Rattle.buffers.specs.Parts.{PlainBelow, Drawn};
-ghost use Rattle.holding.specs.Pieces.{held_from, left_from, first_place, window_behind, Entered, Offered, Holds, Cuts, Served};
+ghost use Rattle.holding.specs.Pieces.{held_from, left_from, first_place, Entered, Offered, Holds, Cuts, Served};
 
 use buffers::put;
 
@@ -126,14 +126,6 @@ fn served(place: Place, demand: &[u32], stop: u32) -> Place
     }
 }
 
-// The index of the free window that comes behind `stop`, of the window at `f` or the next.
-fn next_window(free: &[u32], f: usize, stop: u32) -> usize
-    requires { f + 1 < length free.now }
-    ensures { result ≡ window_behind free.now f stop }
-{
-    if free[f + 1] <= stop { f + 2 } else { f }
-}
-
 // Writes the ticks of a free curve that a demand takes, at most `capacity` in each period, and those that are left.
 pub fn hold(
     capacity: u32,
@@ -151,11 +143,11 @@ pub fn hold(
 {
     let mut place = start(demand);
     let mut counts = Counts { taken: 0, left: 0 };
-    let mut f: usize = 0;
-    while f < free.len() {
-        let at = place.at.max(free[f]);
+    let mut ahead = free;
+    while let [start, end, rest @ ..] = ahead {
+        let at = place.at.max(*start);
         let here = entered(place, at, capacity, period);
-        match next_piece(here, demand, free[f + 1]) {
+        match next_piece(here, demand, *end) {
             Piece::Held(stop) => {
                 counts.taken = put(held, counts.taken, at, stop);
                 place = served(here, demand, stop);
@@ -165,7 +157,9 @@ pub fn hold(
                 place = Place { at: stop, ..here };
             }
         }
-        f = next_window(free, f, place.at);
+        if *end <= place.at {
+            ahead = rest;
+        }
     }
     counts
 }
