@@ -16,7 +16,6 @@ use Rattle.scheduling.specs.Working.{told_by, listed_by}
 use Rattle.scheduling.specs.Asking.{who_of}
 use Rattle.scheduling.specs.Analysing.{analysis_of}
 
-
 module _ (text : List ℕ) (tick : ℕ) (room : Bool) (w : Worked) (e : opened_of text tick room ≡ Ok w.table) (n : AllNoted w.table tick w.notes) where
   pub told_is : who_of text tick room ≡ Ok (told_by w)
   told_is =

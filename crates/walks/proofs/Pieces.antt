@@ -27,7 +27,7 @@ module _ (w : Cut) (s : CutSound w) (h : 2 ≤ length w.ahead.now) where
     -- a multiple of the period lies inside: the piece ends there, and the window is not passed
     pub piece_cut : w.period - a % w.period < get_or w.ahead.now 1 0 - a
         → let b = a + (w.period - a % w.period) in
-          Next CutSound pieces_ahead w (record { start = a; end = b; behind = record { ahead = w.ahead; from = b; period = w.period } })
+        Next CutSound pieces_ahead w (record { start = a; end = b; behind = record { ahead = w.ahead; from = b; period = w.period } })
     piece_cut k =
         let f = faces w.ahead.now s.plain h in
         let below = piece_rises in
@@ -35,8 +35,8 @@ module _ (w : Cut) (s : CutSound w) (h : 2 ≤ length w.ahead.now) where
         let end = b + (w.period - b % w.period) in
         record {
           is = rw at_start (ap (cut_from w.period w.from) f.is
-            ∙ cut_inside w.period w.from (get_or w.ahead.now 0 0) (get_or w.ahead.now 1 0) (behind w.ahead.now) s.period below (rw at_start at k)
-            ∙ ap (λ (x : List ℕ). b ∷ (end ∷ cut_from w.period end x)) (sym f.is));
+              ∙ cut_inside w.period w.from (get_or w.ahead.now 0 0) (get_or w.ahead.now 1 0) (behind w.ahead.now) s.period below (rw at_start at k)
+              ∙ ap (λ (x : List ℕ). b ∷ (end ∷ cut_from w.period end x)) (sym f.is));
           bounded = omega (arith, f.bounded);
           behind = record { period = s.period; plain = s.plain; inside = λ i. omega arith };
         }
@@ -49,7 +49,7 @@ module _ (w : Cut) (s : CutSound w) (h : 2 ≤ length w.ahead.now) where
         let below = piece_rises in
         record {
           is = rw (es, ee, ea, ef, ep, at_start) (ap (cut_from w.period w.from) f.is
-            ∙ cut_over w.period w.from (get_or w.ahead.now 0 0) (get_or w.ahead.now 1 0) (behind w.ahead.now) s.period below (rw at_start at k));
+              ∙ cut_over w.period w.from (get_or w.ahead.now 0 0) (get_or w.ahead.now 1 0) (behind w.ahead.now) s.period below (rw at_start at k));
           bounded = omega (arith, f.bounded);
           behind = record { period = omega (arith, s.period); plain = rw ea f.later; inside = λ i. rw (ef, ea) (behind_inside w.ahead.now f.later (rw ea at i)) };
         }
