@@ -10,7 +10,8 @@ use entries::placing::put_row;
 // What stands for no short period.
 pub const NONE: u32 = u32::MAX;
 
-// An answer that is listed as a row of N numbers.
+// An answer that is listed as a row of N numbers. It stays beside the rows of `entries`: an impl of that trait for types of `answers` would be an
+// orphan here, and the answers have no row where they are declared.
 trait Row<const N: usize>: Copy {
     // its numbers
     ghost numbers: { Self → List ℕ };
