@@ -29,25 +29,53 @@ fn wanted(table: Table, i: usize, sum: &mut [u32], part: &mut [u32], spare: &mut
 }
 
 // Writes the ticks that a server holds of the free curve that the first `n` numbers of `free` are, and leaves there those that it does not.
-pub fn hold_server(table: Table, i: usize, n: usize, work: &mut Work<'_>) -> Counts
+pub fn hold_server(
+    table: Table,
+    i: usize,
+    n: usize,
+    free: &mut [u32],
+    sum: &mut [u32],
+    part: &mut [u32],
+    held: &mut [u32],
+    spare: &mut [u32],
+) -> Counts
+    requires { Obeyed table × (i < table.servers_n) × Curve free.old n table.span × (16000 ≤ length sum.old) × (16000 ≤ length part.old)
+        × (16000 ≤ length held.old) × (16000 ≤ length spare.old) }
+    ensures held { Wrote held.old held.new result.taken (held_in table i (take n free.old)) }
+    ensures left { Wrote free.old free.new result.left (without table.span (take n free.old) (held_in table i (take n free.old))) }
+{
+    let server = table.servers[i];
+    let m = wanted(table, i, sum, part, spare);
+    let counts = hold(
+        server.capacity,
+        server.period,
+        &sum[..m],
+        &free[..n],
+        held,
+        spare,
+    );
+    free[..counts.left].copy_from_slice(&spare[..counts.left]);
+    counts
+}
+
+// The same in the work buffers of a call.
+pub fn hold_in_work(table: Table, i: usize, n: usize, work: &mut Work<'_>) -> Counts
     requires { Obeyed table × (i < table.servers_n) × Curve work.old.free.now n table.span }
     ensures same { Same work.old work.new }
     ensures held { Wrote work.old.held.now work.new.held.now result.taken (held_in table i (take n work.old.free.now)) }
     ensures left { Wrote work.old.free.now work.new.free.now result.left
         (without table.span (take n work.old.free.now) (held_in table i (take n work.old.free.now))) }
 {
-    let server = table.servers[i];
-    let m = wanted(table, i, work.sum, work.part, work.spare);
-    let counts = hold(
-        server.capacity,
-        server.period,
-        &work.sum[..m],
-        &work.free[..n],
+    hold_server(
+        table,
+        i,
+        n,
+        work.free,
+        work.sum,
+        work.part,
         work.held,
         work.spare,
-    );
-    work.free[..counts.left].copy_from_slice(&work.spare[..counts.left]);
-    counts
+    )
 }
 
 // More ticks than a span has: a capacity of so many in each period of so many is no limit.

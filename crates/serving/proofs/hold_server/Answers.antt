@@ -16,8 +16,8 @@ hold-counts-requires c =
       omega (arith, few.0, few.1),
       plain_higher a.table.span 16000 _ span (rw c.wanted-m.ensures.front (wanted_plain a.table p.0 a.i)),
       plain_higher a.table.span 16000 _ span p.2.curve,
-      c.args.work.now.roomy.of_held,
-      omega (arith, c.args.work.now.roomy.of_spare),
+      p.5,
+      omega (arith, p.6),
     )
 
 pub returns-clause-held : goal.returns-clause-held
