@@ -51,7 +51,9 @@ pub struct Task {
     pub deadline: u32,
 }
 
-// Entries beyond the counts mean nothing. They are arrays with their counts, since the library allocates nothing.
+// Entries beyond the counts mean nothing. They are arrays with counts beside them, since the calls for C hand in any counts: a table with too many has
+// to be a table, so that it is refused with 13. No type says that a table obeys the rules: the specifications, the calls for C and the answers speak of
+// the plain table, and each contract would say `.table` where it says `Obeyed table` once.
 #[derive(Clone, Copy)]
 pub struct Table {
     pub span: u32,
