@@ -8,7 +8,7 @@ ghost use Rattle.lines.specs.Lines.{line_of};
 ghost use Rattle.fields.specs.Fields.{split};
 
 use lines::{Line, read_line};
-use refusals::{Ground, Refusal, refused_at};
+use refusals::{Ground, Refusal, refused_at, required};
 use table::multiples::common_span;
 use table::{Kind, Release, Server, Table, Task};
 
@@ -44,9 +44,7 @@ fn ended(table: Table, line: u32) -> Result<Table, Refusal>
     if table.span != 0 {
         return Ok(table);
     }
-    let Some(span) = common_span(table) else {
-        return Err(refused_at(Ground::MultipleOver, 0, 0));
-    };
+    let span = common_span(table).ok_or(Ground::MultipleOver)?;
     Ok(Table { span, ..table })
 }
 
@@ -96,11 +94,9 @@ fn read_lines(lines: &[u8]) -> Result<Table, Refusal>
 pub fn read(text: &[u8]) -> Result<Table, Refusal>
     ensures { result ≡ reading_of text.now }
 {
-    if text.len() > 4096 {
-        return Err(refused_at(Ground::TextTooLong, 0, 0));
-    }
+    required(text.len() <= 4096, Ground::TextTooLong)?;
     let Some((b'\n', lines)) = text.split_last() else {
-        return Err(refused_at(Ground::NotEnded, 0, 0));
+        return Err(Ground::NotEnded.into());
     };
     read_lines(lines)
 }
