@@ -10,7 +10,7 @@ ghost use Rattle.fields.specs.Fields.{split};
 use lines::{Line, read_line};
 use refusals::{Ground, Refusal, refused_at, required};
 use table::multiples::common_span;
-use table::{Kind, Release, Server, Table, Task};
+use table::{Server, Table, Task};
 
 // A table before its first line.
 fn no_table() -> Table
@@ -20,17 +20,8 @@ fn no_table() -> Table
         span: 0,
         servers_n: 0,
         tasks_n: 0,
-        servers: [Server {
-            kind: Kind::Deferrable,
-            capacity: 0,
-            period: 0,
-        }; 16],
-        tasks: [Task {
-            server: 0,
-            work: 0,
-            release: Release::Once(0),
-            deadline: 0,
-        }; 64],
+        servers: [Server::default(); 16],
+        tasks: [Task::default(); 64],
     }
 }
 
