@@ -5,7 +5,7 @@ ghost use Rattle.entries.specs.Entries.{server_row, task_row, server_in, task_in
 
 use crate::giving::{kind_number, release_row};
 use crate::taking::{kind_from, release_from};
-use table::{Kind, Release, Server, Task};
+use table::{Server, Task};
 
 // An entry of a table, which is handed out as a row of W numbers and made of one.
 pub trait Row<const W: usize>: Sized {
@@ -56,11 +56,7 @@ impl Row<3> for Server {
     }
 
     fn none() -> Server {
-        Server {
-            kind: Kind::Deferrable,
-            capacity: 0,
-            period: 0,
-        }
+        Server::default()
     }
 
     ghost wide = { λ server. refl };
@@ -94,12 +90,7 @@ impl Row<6> for Task {
     }
 
     fn none() -> Task {
-        Task {
-            server: 0,
-            work: 0,
-            release: Release::Once(0),
-            deadline: 0,
-        }
+        Task::default()
     }
 
     ghost wide = { λ task. refl };

@@ -1,7 +1,7 @@
 // What one line says.
 #![tactic(auto)]
 
-ghost use Rattle.std.specs.Prelude.{◌≡◌, ◌<◌, Ok, Err};
+ghost use Rattle.std.specs.Prelude.{◌≡◌, Ok, Err};
 ghost use Rattle.basics.specs.Choice.{pick};
 ghost use Rattle.fields.specs.Fields.{field_at, same_bytes, dash, field_number};
 ghost use Rattle.lines.specs.Pieces.{ReadAt};
@@ -63,15 +63,13 @@ fn at<T>(read: Result<T, Ground>, place: u32) -> Result<T, Wrong>
 
 // The field at a place, the line's first word being 1.
 fn field_at(line: &[u8], place: u32) -> &[u8]
-    requires { 0 < place }
     ensures { result.now ≡ field_at line.now place }
 {
-    field(line, place as usize - 1)
+    field(line, (place as usize).saturating_sub(1))
 }
 
 // Whether `-` stands at a place.
 fn dash_at(line: &[u8], place: u32) -> bool
-    requires { 0 < place }
     ensures { result ≡ same_bytes (field_at line.now place) dash }
 {
     same(field_at(line, place), b"-")
@@ -79,7 +77,6 @@ fn dash_at(line: &[u8], place: u32) -> bool
 
 // The number at a place.
 fn number_at(line: &[u8], place: u32) -> Result<u32, Wrong>
-    requires { 0 < place }
     ensures { ReadAt (field_number (field_at line.now place)) place result }
 {
     at(number(field_at(line, place)), place)
@@ -179,7 +176,6 @@ fn once_line(servers: usize, line: &[u8]) -> Result<Line, Wrong>
 
 // The deadline at a place: a number, or `-` for the period.
 fn deadline_at(line: &[u8], place: u32, period: u32) -> Result<u32, Wrong>
-    requires { 0 < place }
     ensures { ReadAt (deadline_of (field_at line.now place) period) place result }
 {
     if dash_at(line, place) {

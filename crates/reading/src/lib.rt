@@ -8,9 +8,9 @@ ghost use Rattle.lines.specs.Lines.{line_of};
 ghost use Rattle.fields.specs.Fields.{split};
 
 use lines::{Line, read_line};
-use refusals::{Ground, Refusal, refused_at};
+use refusals::{Ground, Refusal, refused_at, required};
 use table::multiples::common_span;
-use table::{Kind, Release, Server, Table, Task};
+use table::{Server, Table, Task};
 
 // A table before its first line.
 fn no_table() -> Table
@@ -20,17 +20,8 @@ fn no_table() -> Table
         span: 0,
         servers_n: 0,
         tasks_n: 0,
-        servers: [Server {
-            kind: Kind::Deferrable,
-            capacity: 0,
-            period: 0,
-        }; 16],
-        tasks: [Task {
-            server: 0,
-            work: 0,
-            release: Release::Once(0),
-            deadline: 0,
-        }; 64],
+        servers: [Server::default(); 16],
+        tasks: [Task::default(); 64],
     }
 }
 
@@ -44,9 +35,7 @@ fn ended(table: Table, line: u32) -> Result<Table, Refusal>
     if table.span != 0 {
         return Ok(table);
     }
-    let Some(span) = common_span(table) else {
-        return Err(refused_at(Ground::MultipleOver, 0, 0));
-    };
+    let span = common_span(table).ok_or(Ground::MultipleOver)?;
     Ok(Table { span, ..table })
 }
 
@@ -96,11 +85,9 @@ fn read_lines(lines: &[u8]) -> Result<Table, Refusal>
 pub fn read(text: &[u8]) -> Result<Table, Refusal>
     ensures { result ≡ reading_of text.now }
 {
-    if text.len() > 4096 {
-        return Err(refused_at(Ground::TextTooLong, 0, 0));
-    }
+    required(text.len() <= 4096, Ground::TextTooLong)?;
     let Some((b'\n', lines)) = text.split_last() else {
-        return Err(refused_at(Ground::NotEnded, 0, 0));
+        return Err(Ground::NotEnded.into());
     };
     read_lines(lines)
 }

@@ -12,8 +12,8 @@ use Rattle.std.proofs.Common.{map-id}
 use Rattle.std.proofs.lemmas.Iterator.{YieldsList}
 use Rattle.std.proofs.lemmas.Iterator.Consumers.{YieldsList-so_far, YieldsList-turn, YieldsList-end}
 use Rattle.std.specs.Iterator.{Yields}
-use lib.Dec.{eqb}
-use borrow.Author.Tests.{eqb-true, le-leb}
+use lib.Dec.{eqb, leb}
+use borrow.Author.Tests.{eqb-true, le-leb, leb-true, leb-false}
 use Rattle.basics.specs.Choice.{pick}
 use Rattle.basics.proofs.Tests.{and_left, and_right}
 use Rattle.table.specs.Rules.{all, in_ticks}
@@ -21,13 +21,14 @@ use Rattle.table.specs.Euclid.{IsLcm}
 use Rattle.table.specs.Span.{is_multiple, first_multiple, span_of}
 use Rattle.table.specs.Multiples.{Divide, Spans, InSpan, JoinsAll}
 use Rattle.std.specs.Prelude.{Option, Some, None}
+use Rattle.std.specs.Bool.{then_some}
 
 -- ---- a period more
 
 pub joins_over : (periods : List ℕ) → JoinsAll None periods None
 joins_over periods = record { bounded = tt; leads = λ whole ahead s. s }
 
-pub joins_lcm : (m p r : ℕ) → IsLcm m p r → r ≤ 16000 → JoinsAll (Some m) (p ∷ []) (Some r)
+joins_lcm : (m p r : ℕ) → IsLcm m p r → r ≤ 16000 → JoinsAll (Some m) (p ∷ []) (Some r)
 joins_lcm m p r l h = record {
   bounded = (l.some, h);
   leads = λ whole ahead s. record {
@@ -38,13 +39,20 @@ joins_lcm m p r l h = record {
   };
 }
 
-pub joins_large : (m p r : ℕ) → IsLcm m p r → 16000 < r → JoinsAll (Some m) (p ∷ []) None
+joins_large : (m p r : ℕ) → IsLcm m p r → 16000 < r → JoinsAll (Some m) (p ∷ []) None
 joins_large m p r l h = record {
   bounded = tt;
   leads = λ whole ahead s n z b d.
       let x = s.into n d in
       omega (arith, le_of_dvd z (l.least n x.0 x.1.0));
 }
+
+pub joins_up_to : (m p r : ℕ) → IsLcm m p r → JoinsAll (Some m) (p ∷ []) (then_some (leb r 16000) r)
+joins_up_to m p r l = go (leb r 16000) refl
+    where
+      go : (small : Bool) → leb r 16000 ≡ small → JoinsAll (Some m) (p ∷ []) (then_some small r)
+      go true e = joins_lcm m p r l (leb-true r 16000 e)
+      go false e = joins_large m p r l (leb-false r 16000 e)
 
 -- what a number of 1 to 16,000 divides by is one of them
 divisor_in_ticks : (p n : ℕ) → 0 < n → n ≤ 16000 → p ∣ n → in_ticks p ≡ true

@@ -9,15 +9,18 @@ mod rules;
 ghost use Rattle.std.specs.Prelude.{◌≡◌};
 ghost use Rattle.table.specs.Rules.{obeys};
 ghost use Rattle.table.specs.Span.{period_of};
+ghost use Rattle.table.specs.declared.Release.TheVariants.{Once};
 
 // Whether a server holds ticks without work.
-#[derive(Clone, Copy, PartialEq, Eq)]
+#[derive(Clone, Copy, Default, PartialEq, Eq)]
 pub enum Kind {
+    #[default]
     Deferrable,
     Periodic,
 }
 
-#[derive(Clone, Copy)]
+// By default all numbers are 0, as in no table that obeys the rules.
+#[derive(Clone, Copy, Default)]
 pub struct Server {
     pub kind: Kind,
     pub capacity: u32,
@@ -29,6 +32,14 @@ pub struct Server {
 pub enum Release {
     Once(u32),
     Every(u32, u32),
+}
+
+impl Default for Release {
+    ghost is_default = { λ release. release ≡ Once 0 };
+
+    fn default() -> Release {
+        Release::Once(0)
+    }
 }
 
 impl Release {
@@ -43,7 +54,7 @@ impl Release {
     }
 }
 
-#[derive(Clone, Copy)]
+#[derive(Clone, Copy, Default)]
 pub struct Task {
     pub server: u32,
     pub work: u32,
@@ -51,7 +62,9 @@ pub struct Task {
     pub deadline: u32,
 }
 
-// Entries beyond the counts mean nothing. They are arrays with their counts, since the library allocates nothing.
+// Entries beyond the counts mean nothing. They are arrays with counts beside them, since the calls for C hand in any counts: a table with too many has
+// to be a table, so that it is refused with 13. No type says that a table obeys the rules: the specifications, the calls for C and the answers speak of
+// the plain table, and each contract would say `.table` where it says `Obeyed table` once.
 #[derive(Clone, Copy)]
 pub struct Table {
     pub span: u32,

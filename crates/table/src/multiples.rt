@@ -9,6 +9,7 @@ use crate::euclid::lcm;
 use crate::ranges::in_ticks;
 
 // The least common multiple of a span and a period, if it is 16,000 at most.
+#[tactic(auto, using(crate::proofs::Spans::joins_up_to))]
 fn joined(span: u32, period: u32) -> Option<u32>
     requires { (0 < span) × (span ≤ 16000) }
     ensures { JoinsAll (Some span) (period ∷ []) result }
@@ -17,11 +18,7 @@ fn joined(span: u32, period: u32) -> Option<u32>
         return None;
     }
     let multiple = lcm(span, period);
-    if multiple <= 16000 {
-        Some(multiple)
-    } else {
-        None
-    }
+    (multiple <= 16000).then_some(multiple)
 }
 
 // The least common multiple of all server periods and all `every` periods, if it is 16,000 at most. No number divides by a period of 0.
