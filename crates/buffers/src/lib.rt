@@ -6,16 +6,16 @@ pub mod work;
 ghost use Rattle.std.specs.Prelude.{◌≡◌, ◌≤◌, ◌<◌, length, take};
 ghost use Rattle.buffers.specs.Parts.{Curve, Drawn, with_window};
 
-// Puts a window behind the curve that a buffer's first `n` numbers are, joined to its last window if they touch.
-pub fn put(out: &mut [u32], n: usize, s: u32, e: u32) -> usize
-    requires { Curve out.old n s × (s < e) × (e ≤ 16000) }
-    ensures { Drawn out.old out.new result (with_window (take n out.old) s e) }
+// Puts a window behind the curve that a buffer's first `count` numbers are, joined to its last window if they touch.
+pub fn put(out: &mut [u32], count: usize, start: u32, end: u32) -> usize
+    requires { Curve out.old count start × (start < end) × (end ≤ 16000) }
+    ensures { Drawn out.old out.new result (with_window (take count out.old) start end) }
 {
-    if 0 < n && out[n - 1] == s {
-        out[n - 1] = e;
-        return n;
+    if 0 < count && out[count - 1] == start {
+        out[count - 1] = end;
+        return count;
     }
-    out[n] = s;
-    out[n + 1] = e;
-    n + 2
+    out[count] = start;
+    out[count + 1] = end;
+    count + 2
 }

@@ -17,20 +17,20 @@ pub struct Work<'a> {
 impl Work<'_> {
     ghost use Rattle.buffers.specs.Work.{Same, Cleared};
 
-    // The first `n` free numbers.
-    pub fn free_curve(&self, n: usize) -> &[u32]
-        requires { n ≤ length self.now.free.now }
-        ensures { result.now ≡ take n self.now.free.now }
+    // The first `count` free numbers. A part taken at the caller leaves only its length known.
+    pub fn free_curve(&self, count: usize) -> &[u32]
+        requires { count ≤ length self.now.free.now }
+        ensures { result.now ≡ take count self.now.free.now }
     {
-        &self.free[..n]
+        &self.free[..count]
     }
 
-    // The first `n` held numbers.
-    pub fn held_curve(&self, n: usize) -> &[u32]
-        requires { n ≤ length self.now.held.now }
-        ensures { result.now ≡ take n self.now.held.now }
+    // The first `count` held numbers, as above.
+    pub fn held_curve(&self, count: usize) -> &[u32]
+        requires { count ≤ length self.now.held.now }
+        ensures { result.now ≡ take count self.now.held.now }
     {
-        &self.held[..n]
+        &self.held[..count]
     }
 
     // Sets every number of the buffers to 0.

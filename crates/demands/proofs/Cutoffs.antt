@@ -4,7 +4,8 @@ use mathlib.Core.Path.{◌≡◌, refl, ap, ◌∙◌}
 use mathlib.Core.List.{List, [], ◌∷◌}
 use native.Mathlib.Omega.{arith}
 use native.Mathlib.Decide.{dec_lt}
-use lib.ListN.{length, get_or, set, length-set}
+use lib.ListN.{length, get_or, set, take, length-set}
+use lib.Seq.{length-take-le, get_or-take}
 use Rattle.windows.specs.Windows.{cover, add_up, waiting, done, always, ◌⊕◌}
 use Rattle.windows.proofs.Ticks.{inside_yes, inside_late, Apart, cover_before, window_some}
 use Rattle.windows.proofs.Adding.{add_ticks, add_apart}
@@ -54,6 +55,10 @@ module _ (H lo : ℕ) (l : List ℕ) (p : Apart lo l) (q : StartsBelow H l) wher
   -- no window is lost
   pub cut_length : length (below H l) ≡ length l
   cut_length = ap length cut_last ∙ length-set l (length l - 1) _
+
+-- the last number of the curve at the front of a buffer is the buffer's last before its end
+pub last_number_lem : (old : List ℕ) (n : ℕ) → n ≤ length old → 0 < n → get_or (take n old) (length (take n old) - 1) 0 ≡ get_or old (n - 1) 0
+last_number_lem old n h z = rw (length-take-le n old h) (get_or-take n old (n - 1) 0 (omega arith))
 
 -- where there is no window, none is cut off
 pub cut_none : (H : ℕ) (l : List ℕ) → length l ≤ 0 → l ≡ below H l

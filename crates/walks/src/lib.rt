@@ -52,10 +52,10 @@ pub fn fits<W: Walk>(walk: W, room: usize) -> bool
         let Some(step) = next else {
             return true;
         };
-        if free < 2 {
+        let Some(less) = free.checked_sub(2) else {
             return false;
-        }
-        free -= 2;
+        };
+        free = less;
         place = step.behind;
     }
 }
@@ -65,24 +65,21 @@ pub fn write<W: Walk>(walk: W, out: &mut [u32]) -> usize
     requires { W.sound walk × (fits_in (W.ahead walk) (length out.old) ≡ true) }
     ensures { (result ≡ length (W.ahead walk)) × (out.new ≡ front (W.ahead walk) out.old) }
 {
-    let mut n: usize = 0;
+    let mut count: usize = 0;
     let mut place = walk;
-    while let Ok(next) = place.next() {
-        let Some(step) = next else {
-            break;
-        };
-        n = put(out, n, step.start, step.end);
+    while let Ok(Some(step)) = place.next() {
+        count = put(out, count, step.start, step.end);
         place = step.behind;
     }
-    n
+    count
 }
 
-// Writes a window at place `n` of a buffer, and answers the place behind it.
-pub fn put(out: &mut [u32], n: usize, s: u32, e: u32) -> usize
-    requires { n + 1 < length out.old }
-    ensures { (result ≡ n + 2) × (out.new ≡ set (set out.old n s) (n + 1) e) }
+// Writes a window at a place of a buffer, and answers the place behind it.
+pub fn put(out: &mut [u32], place: usize, start: u32, end: u32) -> usize
+    requires { place + 1 < length out.old }
+    ensures { (result ≡ place + 2) × (out.new ≡ set (set out.old place start) (place + 1) end) }
 {
-    out[n] = s;
-    out[n + 1] = e;
-    n + 2
+    out[place] = start;
+    out[place + 1] = end;
+    place + 2
 }

@@ -15,4 +15,5 @@ pub loop-next-preserved : goal.loop-next-preserved
 loop-next-preserved g c =
     let inv = c.loop-next.invariant in
     let step = rw c.in-Some.is at c.in-Ok.ensures in
-    (step.behind, counted_pair inv.1 step.is c.if-free-lt2.false, sym (ends_pair step.is step.bounded) ∙ inv.2)
+    let less = c.in-Some-checked_sub.ensures in
+    (step.behind, rw less.1 (counted_pair inv.1 step.is less.0), sym (ends_pair step.is step.bounded) ∙ inv.2)

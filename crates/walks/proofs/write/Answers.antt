@@ -7,19 +7,16 @@ use Rattle.walks.proofs.Buffers.{written_none, written_room, written_pair, writt
 use Rattle.walks.proofs.Sums.{ends_pair}
 use Rattle.walks.proofs.write.Goals as goal
 
-pub loop-next-init : goal.loop-next-init
-loop-next-init g c =
+pub loop-step-init : goal.loop-step-init
+loop-step-init g c =
     let whole = g.W.Walk.ahead c.args.walk in
     let fits = leb (length whole) (length c.args.out.now) in
     let ends = leb (end_of whole) 1000000 in
     (c.requires.0, written_none _ _ (leb-true _ _ (and_left fits ends c.requires.1)), and_right fits ends c.requires.1)
 
-pub put-n-requires : goal.put-n-requires
-put-n-requires g c = let step = rw c.in-Some.is at c.in-Ok.ensures in written_room c.loop-next.invariant.1 step.is
-
-pub loop-next-preserved : goal.loop-next-preserved
-loop-next-preserved g c =
-    let inv = c.loop-next.invariant in
-    let step = rw c.in-Some.is at c.in-Ok.ensures in
-    let put = c.put-n.ensures in
+pub loop-step-preserved : goal.loop-step-preserved
+loop-step-preserved g c =
+    let inv = c.loop-step.invariant in
+    let step = rw c.in-Ok-Some.field-0-is at c.in-Ok-Some.ensures in
+    let put = c.put-count.ensures in
     (step.behind, rw (put.0, put.1) (written_pair inv.1 step.is), sym (ends_pair step.is step.bounded) ∙ inv.2)

@@ -5,11 +5,11 @@ use Rattle.windows.specs.Windows.{end_of}
 use Rattle.walks.proofs.Buffers.{Written}
 use Rattle.walks.proofs.write.Given as goal
 
-abbrev pub invariant-loop-next : goal.invariant-loop-next
-invariant-loop-next g l =
+abbrev pub invariant-loop-step : goal.invariant-loop-step
+invariant-loop-step g l =
     let w = g.W.Walk in
-    w.sound l.place × Written (w.ahead l.fn.walk) (w.ahead l.place) l.fn.out l.out l.n
+    w.sound l.place × Written (w.ahead l.fn.walk) (w.ahead l.place) l.fn.out l.out l.count
     × (leb (end_of (w.ahead l.place)) 1000000 ≡ true)
 
-abbrev pub decreases-loop-next : goal.decreases-loop-next
-decreases-loop-next g l = length (g.W.Walk.ahead l.place)
+abbrev pub decreases-loop-step : goal.decreases-loop-step
+decreases-loop-step g l = length (g.W.Walk.ahead l.place)
