@@ -8,7 +8,7 @@ use Rattle.refusals.specs.declared.Refusal.{Refusal}
 use Rattle.entries.specs.Entries.{rows, server_row, task_row}
 use Rattle.table.specs.Rules.{servers_of, tasks_of}
 use Rattle.table.specs.declared.Table.{Table}
-use Rattle.machine.specs.Machine.{step_of}
+use Rattle.machine.specs.Machine.{step_of, handed_back}
 use Rattle.machine.specs.declared.State.{State}
 use Rattle.machine.specs.declared.Step.{Step}
 
@@ -46,12 +46,12 @@ abbrev pub step_for : Result Table Refusal → State → Result Step Refusal
 step_for (Ok table) state = step_of table state
 step_for (Err refusal) state = Err refusal
 
--- by what a step answers: the refusal, the state as it is handed back, holder and runner
+-- by what a step answers: the refusal, and what is handed back of the step: the state, holder and runner
 pub record HandsStep (stepped : Result Step Refusal) (before : State) (refusal : Refusal) (after : State) (holder' runner' : ℕ) : Type 0 where
   pub refusal_is : refusal ≡ refusal_in stepped
-  pub next : after ≡ handed (λ (step : Step). step.next) stepped before
-  pub holds : holder' ≡ handed (λ (step : Step). step.holder) stepped 0
-  pub runs : runner' ≡ handed (λ (step : Step). step.runner) stepped 0
+  pub next : after ≡ (handed_back before stepped).next
+  pub holds : holder' ≡ (handed_back before stepped).holder
+  pub runs : runner' ≡ (handed_back before stepped).runner
 
 -- a refusal of which only the number is handed out: it has no line and no place
 abbrev pub unplaced : ℕ → Refusal

@@ -11,8 +11,8 @@ use answers::{Analysis, Response, ServerAnswer, WorstJob};
 use putting::Page;
 use refusals::Refusal;
 
-// Puts the line of a refusal.
-fn put_refusal(page: &mut Page<'_>, refusal: Refusal)
+// Puts the line of a refusal behind what the page has.
+pub fn put_refusal(page: &mut Page<'_>, refusal: Refusal)
     requires { page.old.count + 41 ≤ 1000000 }
     ensures adds { Adds page.old page.new (refused_line refusal) }
     ensures most { page.new.count ≤ page.old.count + 41 }

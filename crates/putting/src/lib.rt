@@ -5,7 +5,10 @@ ghost use Rattle.std.specs.Prelude.{◌≡◌, ◌+◌, ◌≤◌, [], ◌∷◌
 ghost use Rattle.putting.specs.Pages.{Adds};
 ghost use Rattle.putting.specs.Decimal.{decimal, field, signed};
 
-// A lent buffer, and how many bytes are put at its front. Each call asks that they are 1,000,000 at the most, so that the count fits.
+// A lent buffer, and how many bytes are put at its front. Each call asks that they are 1,000,000 at the most, so that the count fits: a bound in the
+// type would be asked for at each put all the same.
+// Numbers are put by `put_number`, not by `write!` over an impl of `fmt::Write`: what `write!` leaves on the page is promised on Ok alone, and since
+// `write_str` asks nothing of the page, that it answers Ok stayed open.
 #[derive(Drop)]
 pub struct Page<'a> {
     pub bytes: &'a mut [u8],
