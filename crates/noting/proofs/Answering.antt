@@ -1,21 +1,24 @@
 -- The notes of a server's tasks, one by one. Assumes nothing.
 use Prim.Native.Nat.{ℕ, suc, ◌+◌, ◌-◌, ◌≤◌, ◌<◌}
-use mathlib.Core.Path.{◌≡◌, ap, ◌∙◌}
+use mathlib.Core.Path.{◌≡◌, refl, ap, ◌∙◌}
 use mathlib.Core.List.{List}
-use mathlib.Core.Bool.{Bool, false}
+use mathlib.Core.Bool.{Bool, true, false}
 use native.Mathlib.Omega.{arith}
+use native.Mathlib.Numerals.{add-one}
+use native.Mathlib.Decide.{ℕ_discrete}
 use lib.ListN.{length, take, set, length-set}
 use lib.Dec.{ltb}
+use borrow.Author.Tests.{eq-eqb, ne_eqb}
 use Rattle.windows.specs.Windows.{cover, fit}
 use Rattle.table.specs.declared.Table.{Table}
 use Rattle.table.specs.Places.{task_at, Obeyed}
 use Rattle.table.proofs.Obeyed.{tasks_most}
-use Rattle.schedule.specs.Curves.{releases_from, demand_of}
+use Rattle.schedule.specs.Curves.{releases_from, demand_of, belongs, left_below, running_of}
 use Rattle.answers.specs.Answers.{none, judged, verdict_of, response_of, task_answer, no_task_answer}
 use Rattle.answers.specs.declared.Response.{Response}
 use Rattle.buffers.specs.Parts.{Wrote}
 use Rattle.noting.specs.declared.TaskNotes.{TaskNotes}
-use Rattle.noting.specs.Noted.{of_below, runs_at, TasksNoted}
+use Rattle.noting.specs.Noted.{Noted, of_below, runs_at, TasksNoted}
 use Rattle.serving.proofs.LeftTicks.{Left, left_other, left_served, left_next}
 use Rattle.noting.proofs.Noting.{noted_same, noted_more, reached, reached_none, reached_apart, reached_other, reached_own, reached_all}
 
@@ -92,3 +95,45 @@ module _ {table : Table} {tick s : ℕ} {held : List ℕ} {k j : ℕ} {notes : T
                   (q ∙ ap (λ (l : List ℕ). ltb 0 (cover l tick)) (left_served w.left h place served)) w.noted.marked;
             };
       }
+
+-- ---- the same in equations, for a turn whose branch is not known yet
+
+module _ (table : Table) (s j : ℕ) (some : 0 < s) where
+  abbrev before : List ℕ
+  before = left_below table (s - 1) j
+
+  abbrev its_demand : List ℕ
+  its_demand = demand_of table.span (task_at table j)
+
+  pub passes : ¬ ((task_at table j).server ≡ s) → left_below table (s - 1) (j + 1) ≡ before
+  unfolding left_below
+  passes d =
+      let not : belongs table (s - 1) j ≡ false = ne_eqb (task_at table j).server (suc (s - 1)) (λ e. d (omega arith)) in
+      rw (add-one j, not)
+
+  pub takes : (task_at table j).server ≡ s → left_below table (s - 1) (j + 1) ≡ (fit its_demand before).left
+  unfolding left_below
+  takes e =
+      let mine : belongs table (s - 1) j ≡ true = eq-eqb (task_at table j).server (suc (s - 1)) (omega arith) in
+      rw (add-one j, mine)
+
+  pub runs_in : (task_at table j).server ≡ s → (fit its_demand before).served ≡ running_of table j
+  unfolding running_of
+  runs_in e = let same : s - 1 ≡ (task_at table j).server - 1 = omega arith in ap (λ (p : ℕ). (fit its_demand (left_below table p j)).served) same
+
+  -- the response that its ticks give, and whether they cover a tick
+  abbrev responds : List ℕ → Response
+  responds l = response_of (task_at table j).deadline (judged l (task_at table j).work 1 (releases_from (task_at table j).release table.span 0) none)
+
+  pub answers_with : (l : List ℕ) → l ≡ running_of table j → responds l ≡ task_answer table j
+  unfolding verdict_of
+  answers_with l e = ap responds e
+
+-- what is noted of a task of the server, and nothing of another
+pub noted_turn : {A : Type 0} (f : ℕ → A) (empty : A) (table : Table) (s j : ℕ) (old new : List A) → j < table.tasks_n → j < length old → Noted f empty (reached table s j) old
+    → ((task_at table j).server ≡ s → new ≡ set old j (f j)) → (¬ ((task_at table j).server ≡ s) → new ≡ old) → Noted f empty (reached table s (j + 1)) new
+noted_turn f empty table s j old new h room w own other = go (ℕ_discrete (task_at table j).server s)
+  where
+    go : Dec ((task_at table j).server ≡ s) → Noted f empty (reached table s (j + 1)) new
+    go (yes e) = rw (own e) (noted_more f empty old j (f j) (reached_apart table s j) (reached_own table s j h e) room refl w)
+    go (no d) = rw (other d) (noted_same f empty (reached_other table s j d) w)
