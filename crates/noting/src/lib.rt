@@ -35,6 +35,7 @@ pub fn answer_tasks(
         × (n ≤ length work.old.held.now) × TasksNoted table tick (of_below table server) notes.old }
     ensures same { Same work.old work.new }
     ensures free { work.new.free.now ≡ work.old.free.now }
+    ensures sum { work.new.sum.now ≡ work.old.sum.now }
     ensures noted { TasksNoted table tick (of_below table (server + 1)) notes.new }
 {
     let mut left = n;
