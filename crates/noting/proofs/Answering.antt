@@ -17,7 +17,7 @@ use Rattle.schedule.specs.Curves.{releases_from, demand_of, belongs, left_below,
 use Rattle.answers.specs.Answers.{none, judged, verdict_of, response_of, task_answer, no_task_answer}
 use Rattle.answers.specs.declared.Response.{Response}
 use Rattle.buffers.specs.Parts.{Wrote}
-use Rattle.noting.specs.declared.TaskNotes.{TaskNotes}
+use Rattle.noting.specs.declared.PlaceNotes.{PlaceNotes}
 use Rattle.noting.specs.Noted.{Noted, of_below, runs_at, TasksNoted}
 use Rattle.serving.proofs.LeftTicks.{Left, left_other, left_served, left_next}
 use Rattle.noting.proofs.Noting.{noted_same, noted_more, reached, reached_none, reached_apart, reached_other, reached_own, reached_all}
@@ -25,12 +25,12 @@ use Rattle.noting.proofs.Noting.{noted_same, noted_more, reached, reached_none, 
 -- ---- the tasks of the server with number s
 
 -- the walk along the tasks has come to place j, with the ticks left to the task there and the notes of the tasks before it
-pub record Answering (table : Table) (tick s : ℕ) (held : List ℕ) (k j : ℕ) (notes : TaskNotes) : Type 0 where
+pub record Answering (table : Table) (tick s : ℕ) (held : List ℕ) (k j : ℕ) (notes : PlaceNotes Response 64) : Type 0 where
   pub left : Left table (s - 1) held k j
   pub noted : TasksNoted table tick (reached table s j) notes
 
 -- a test that says the same
-tasks_same : {table : Table} {tick : ℕ} {test other : ℕ → Bool} {notes : TaskNotes} → ((k : ℕ) → test k ≡ other k)
+tasks_same : {table : Table} {tick : ℕ} {test other : ℕ → Bool} {notes : PlaceNotes Response 64} → ((k : ℕ) → test k ≡ other k)
     → TasksNoted table tick test notes → TasksNoted table tick other notes
 tasks_same {table} {tick} e w = record {
   all = w.all;
@@ -39,11 +39,11 @@ tasks_same {table} {tick} e w = record {
   marked = noted_same (runs_at table tick) false e w.marked;
 }
 
-pub answering_starts : (table : Table) (s : ℕ) {tick : ℕ} {held : List ℕ} {n : ℕ} {notes : TaskNotes} → Left table (s - 1) held n 0
+pub answering_starts : (table : Table) (s : ℕ) {tick : ℕ} {held : List ℕ} {n : ℕ} {notes : PlaceNotes Response 64} → Left table (s - 1) held n 0
     → TasksNoted table tick (of_below table s) notes → Answering table tick s held n 0 notes
 answering_starts table s l w = record { left = l; noted = tasks_same (reached_none table s) w }
 
-module _ {table : Table} {tick s : ℕ} {held : List ℕ} {k j : ℕ} {notes : TaskNotes} (w : Answering table tick s held k j notes) where
+module _ {table : Table} {tick s : ℕ} {held : List ℕ} {k j : ℕ} {notes : PlaceNotes Response 64} (w : Answering table tick s held k j notes) where
   -- all tasks of the server are noted
   pub answering_ends : table.tasks_n ≤ j → TasksNoted table tick (of_below table (s + 1)) notes
   answering_ends h = tasks_same (reached_all table s j h) w.noted
@@ -53,7 +53,7 @@ module _ {table : Table} {tick s : ℕ} {held : List ℕ} {k j : ℕ} {notes : T
     pub answer_place : j < length notes.answers
     answer_place = omega (arith, w.noted.all, tasks_most table ok)
 
-    pub mark_place : j < length notes.runs
+    pub mark_place : j < length notes.marks
     mark_place = omega (arith, w.noted.marks, tasks_most table ok)
 
     -- a task of another server is passed
@@ -80,7 +80,7 @@ module _ {table : Table} {tick s : ℕ} {held : List ℕ} {k j : ℕ} {notes : T
           → Wrote held after l (fit (demand_of table.span (task_at table j)) (take k held)).left → (a : Response)
           → a ≡ response_of (task_at table j).deadline (judged (take m run) (task_at table j).work 1 (releases_from (task_at table j).release table.span 0) none)
           → (b : Bool) → b ≡ ltb 0 (cover (take m run) tick)
-          → Answering table tick s after l (j + 1) (record { answers = set notes.answers j a; runs = set notes.runs j b })
+          → Answering table tick s after l (j + 1) (record { answers = set notes.answers j a; marks = set notes.marks j b })
       answering_own served left a d b q = record {
         left = left_next w.left h place left;
         noted =
@@ -89,9 +89,9 @@ module _ {table : Table} {tick s : ℕ} {held : List ℕ} {k j : ℕ} {notes : T
               answered =
                   noted_more (task_answer table) no_task_answer notes.answers j a (reached_apart table s j) (reached_own table s j h e)
                   answer_place (answer_is served a d) w.noted.answered;
-              marks = length-set notes.runs j b ∙ w.noted.marks;
+              marks = length-set notes.marks j b ∙ w.noted.marks;
               marked =
-                  noted_more (runs_at table tick) false notes.runs j b (reached_apart table s j) (reached_own table s j h e) mark_place
+                  noted_more (runs_at table tick) false notes.marks j b (reached_apart table s j) (reached_own table s j h e) mark_place
                   (q ∙ ap (λ (l : List ℕ). ltb 0 (cover l tick)) (left_served w.left h place served)) w.noted.marked;
             };
       }
