@@ -14,8 +14,8 @@ use Rattle.table.proofs.Obeyed.{servers_most, task_server}
 use Rattle.schedule.specs.Curves.{held_of}
 use Rattle.answers.specs.Answers.{task_answer, no_task_answer, answer_on, server_answer, no_server_answer}
 use Rattle.answers.specs.declared.ServerAnswer.{ServerAnswer}
-use Rattle.answering.specs.declared.ServerNotes.{ServerNotes}
-use Rattle.noting.specs.declared.TaskNotes.{TaskNotes}
+use Rattle.answers.specs.declared.Response.{Response}
+use Rattle.noting.specs.declared.PlaceNotes.{PlaceNotes}
 use Rattle.noting.specs.Noted.{of_below, runs_at, TasksNoted}
 use Rattle.answering.specs.Noted.{holds_at, NoNotes, ServersNoted, AllNoted}
 use Rattle.answering.proofs.FreeCurves.{Freed}
@@ -24,7 +24,7 @@ use Rattle.noting.proofs.Noting.{noted_none, noted_same, noted_more, noted_all, 
 -- ---- all servers
 
 -- the walk down the servers has come to place i, with the free curve of the server there, the notes of those above it and of their tasks
-pub record Answered (table : Table) (tick : ℕ) (first free : List ℕ) (n i : ℕ) (servers : ServerNotes) (tasks : TaskNotes) : Type 0 where
+pub record Answered (table : Table) (tick : ℕ) (first free : List ℕ) (n i : ℕ) (servers : PlaceNotes ServerAnswer 16) (tasks : PlaceNotes Response 64) : Type 0 where
   pub freed : Freed table first free n i
   pub servers_noted : ServersNoted table tick (λ k. ltb k i) servers
   pub tasks_noted : TasksNoted table tick (of_below table (i + 1)) tasks
@@ -46,7 +46,7 @@ module _ (table : Table) (ok : Obeyed table) where
       go false e = refl
       go true e = lt-ltb (task_at table k).server (i + 1) (omega (arith, (task_server table ok k (ltb-true k table.tasks_n e)).1))
 
-  pub answered_starts : (tick : ℕ) {first : List ℕ} {n : ℕ} {servers : ServerNotes} {tasks : TaskNotes} → Freed table first first n 0
+  pub answered_starts : (tick : ℕ) {first : List ℕ} {n : ℕ} {servers : PlaceNotes ServerAnswer 16} {tasks : PlaceNotes Response 64} → Freed table first first n 0
       → NoNotes (record { servers = servers; tasks = tasks })
       → Answered table tick first first n 0 servers tasks
   answered_starts tick f e = record {
@@ -67,13 +67,13 @@ module _ (table : Table) (ok : Obeyed table) where
         };
   }
 
-  module _ {tick : ℕ} {first free : List ℕ} {n i : ℕ} {servers : ServerNotes} {tasks : TaskNotes} (w : Answered table tick first free n i servers tasks) where
+  module _ {tick : ℕ} {first free : List ℕ} {n i : ℕ} {servers : PlaceNotes ServerAnswer 16} {tasks : PlaceNotes Response 64} (w : Answered table tick first free n i servers tasks) where
     -- the server there is noted, and its tasks
     pub answered_next : i < table.servers_n → (a : ServerAnswer) → a ≡ answer_on (server_at table i) table.span (take n free)
         → {held : List ℕ} → held ≡ held_of table i → (b : Bool) → b ≡ ltb 0 (cover held tick)
         → {after : List ℕ} {m : ℕ} → Freed table first after m (i + 1)
-        → {new : TaskNotes} → TasksNoted table tick (of_below table (i + 1 + 1)) new
-        → Answered table tick first after m (i + 1) (record { answers = set servers.answers i a; holds = set servers.holds i b }) new
+        → {new : PlaceNotes Response 64} → TasksNoted table tick (of_below table (i + 1 + 1)) new
+        → Answered table tick first after m (i + 1) (record { answers = set servers.answers i a; marks = set servers.marks i b }) new
     answered_next h a e d b q f v =
         let s = w.servers_noted in
         let last : ltb i (i + 1) ≡ true = lt-ltb i (i + 1) (omega arith) in
@@ -85,9 +85,9 @@ module _ (table : Table) (ok : Obeyed table) where
                 answered =
                     noted_more (server_answer table) no_server_answer servers.answers i a (below_next i) last (omega (arith, s.all, servers_most table ok))
                     (e ∙ ap (λ (l : List ℕ). answer_on (server_at table i) table.span l) w.freed.written.front) s.answered;
-                marks = length-set servers.holds i b ∙ s.marks;
+                marks = length-set servers.marks i b ∙ s.marks;
                 marked =
-                    noted_more (holds_at table tick) false servers.holds i b (below_next i) last (omega (arith, s.marks, servers_most table ok))
+                    noted_more (holds_at table tick) false servers.marks i b (below_next i) last (omega (arith, s.marks, servers_most table ok))
                     (q ∙ ap (λ (l : List ℕ). ltb 0 (cover l tick)) d) s.marked;
               };
           tasks_noted = v;

@@ -1,10 +1,8 @@
 -- The first place that is marked, once all places are. Assumes nothing.
 use Prim.Native.Nat.{ℕ, zero, suc, ◌+◌, ◌≤◌, ◌<◌}
-use mathlib.Core.Path.{◌≡◌, refl, sym, ap, ◌∙◌}
+use mathlib.Core.Path.{◌≡◌, refl, ap, ◌∙◌}
 use mathlib.Core.List.{List}
-use mathlib.Core.Bool.{Bool, true, false}
-use native.Mathlib.Numerals.{add-one}
-use Rattle.std.specs.List.{AllWithin, HoldsAt}
+use mathlib.Core.Bool.{Bool, false}
 use native.Mathlib.Omega.{arith}
 use lib.ListN.{length, get_or, take, replicate}
 use lib.Seq.{length-take-le, get_or-take}
@@ -26,30 +24,8 @@ unfolding first_of
 none_found zero i = refl
 none_found (suc k) i = none_found k (suc i)
 
--- a place that is marked, and none before it, is the first
-first_from : (p : ℕ → Bool) (k i d : ℕ) → d < k → p (i + d) ≡ true → ((u : ℕ) → u < d → p (i + u) ≡ false) → first_of p k i ≡ suc (i + d)
-unfolding first_of
-first_from p zero i d h yes-d none = absurd (omega arith)
-first_from p (suc k) i zero h yes-d none = let here : i + 0 ≡ i = omega arith in rw (rw here at yes-d) (ap suc (sym here))
-first_from p (suc k) i (suc d) h yes-d none =
-    let here : i + 0 ≡ i = omega arith in
-    let later : (u : ℕ) → i + suc u ≡ suc i + u = λ u. omega arith in
-    rw (rw here at (none 0 (omega arith)))
-    (first_from p k (suc i) d (omega arith) (rw (later d) at yes-d) (λ u l. rw (later u) at (none (suc u) (omega arith))) ∙ ap suc (sym (later d)))
-
-module _ (marks : List Bool) where
-  abbrev pub marked : ℕ → Bool
-  marked i = get_or marks i false
-
-  pub found : (i : ℕ) → (i < length marks) × HoldsAt (λ b. b ≡ true) marks i × AllWithin (λ b. b ≡ false) marks 0 i → i + 1 ≡ first_of marked (length marks) 0
-  found i h =
-      let start : (u : ℕ) → 0 + u ≡ u = λ u. omega arith in
-      add-one i ∙ ap suc (sym (start i))
-      ∙ sym (first_from marked (length marks) 0 i h.0 (rw (start i) (h.1 false)) (λ u l. rw (start u) (h.2 u false (omega arith) l)))
-
-  pub not_found : AllWithin (λ b. b ≡ false) marks 0 (length marks) → 0 ≡ first_of marked (length marks) 0
-  not_found h =
-      sym (same_first marked (λ i. false) (length marks) 0 (λ u l. h u false (omega arith) (omega arith)) ∙ none_found (length marks) 0)
+abbrev pub marked : List Bool → ℕ → Bool
+marked marks i = get_or marks i false
 
 -- what is marked passes the test
 pub marked_first : (f : ℕ → Bool) (n : ℕ) (l : List Bool) → Noted f false (λ i. ltb i n) l → first_of (λ i. get_or l i false) n 0 ≡ first_of f n 0

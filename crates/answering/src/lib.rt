@@ -11,22 +11,15 @@ use buffers::put;
 use buffers::work::Work;
 use judging::covering::covers;
 use judging::periods::answer_server;
-use noting::{TaskNotes, answer_tasks};
+use noting::{PlaceNotes, answer_tasks};
 use serving::hold_server;
 use table::Table;
 
-// What is noted of the servers: each one's answer, and whether it holds the tick asked for. Two arrays, and not one of pairs: the answers
-// go into an analysis as they are, and the marks alone are searched.
-#[derive(Clone, Copy)]
-pub struct ServerNotes {
-    pub answers: [ServerAnswer; 16],
-    pub holds: [bool; 16],
-}
-
+// What is noted of the servers, and which hold the tick asked for; and of the tasks, and which run in it.
 #[derive(Clone, Copy)]
 pub struct Notes {
-    pub servers: ServerNotes,
-    pub tasks: TaskNotes,
+    pub servers: PlaceNotes<ServerAnswer, 16>,
+    pub tasks: PlaceNotes<Response, 64>,
 }
 
 // Before any server and task.
@@ -37,13 +30,13 @@ pub fn no_notes() -> Notes
         full: 0,
         short: None,
     };
-    let servers = ServerNotes {
+    let servers = PlaceNotes {
         answers: [no_server; 16],
-        holds: [false; 16],
+        marks: [false; 16],
     };
-    let tasks = TaskNotes {
+    let tasks = PlaceNotes {
         answers: [Response::None; 64],
-        runs: [false; 64],
+        marks: [false; 64],
     };
     Notes { servers, tasks }
 }
@@ -59,7 +52,7 @@ pub fn answer_all(table: Table, tick: u32, work: &mut Work<'_>) -> Notes
     for (i, server) in table.servers[..table.servers_n].iter().enumerate() {
         notes.servers.answers[i] = answer_server(*server, table.span, work.free_curve(n));
         let counts = hold_server(table, i, n, work);
-        notes.servers.holds[i] = covers(work.held_curve(counts.taken), tick);
+        notes.servers.marks[i] = covers(work.held_curve(counts.taken), tick);
         answer_tasks(
             table,
             tick,
@@ -78,8 +71,6 @@ pub fn first_marked(marks: &[bool]) -> u32
     requires { length marks.now ≤ 64 }
     ensures { result ≡ first_of (λ i. get_or marks.now i false) (length marks.now) 0 }
 {
-    match marks.iter().position(|mark| *mark) {
-        Some(i) => i as u32 + 1,
-        None => 0,
-    }
+    let at = marks.iter().position(|mark| *mark);
+    at.map_or(0, |i| (i as u32) + 1)
 }

@@ -6,7 +6,8 @@ use Rattle.table.specs.Places.{task_at}
 use Rattle.table.specs.declared.Table.{Table}
 use Rattle.schedule.specs.Curves.{running_of}
 use Rattle.answers.specs.Answers.{task_answer, no_task_answer}
-use Rattle.noting.specs.declared.TaskNotes.{TaskNotes}
+use Rattle.answers.specs.declared.Response.{Response}
+use Rattle.noting.specs.declared.PlaceNotes.{PlaceNotes}
 
 -- of a list, what belongs to the places that pass a test is there, and the others are empty
 pub record Noted {A : Type 0} (f : ℕ → A) (empty : A) (test : ℕ → Bool) (l : List A) : Type 0 where
@@ -21,8 +22,8 @@ abbrev pub runs_at : Table → ℕ → ℕ → Bool
 runs_at table t j = ltb 0 (cover (running_of table j) t)
 
 -- the tasks at the places that pass a test are noted
-pub record TasksNoted (table : Table) (tick : ℕ) (test : ℕ → Bool) (notes : TaskNotes) : Type 0 where
+pub record TasksNoted (table : Table) (tick : ℕ) (test : ℕ → Bool) (notes : PlaceNotes Response 64) : Type 0 where
   pub all : length notes.answers ≡ 64
   pub answered : Noted (task_answer table) no_task_answer test notes.answers
-  pub marks : length notes.runs ≡ 64
-  pub marked : Noted (runs_at table tick) false test notes.runs
+  pub marks : length notes.marks ≡ 64
+  pub marked : Noted (runs_at table tick) false test notes.marks

@@ -14,27 +14,28 @@ use judging::jobs::judge;
 use serving::share;
 use table::Table;
 
-// What is noted of the tasks: each one's answer, and whether it runs in the tick asked for. Those not yet looked at are `None` and false.
-// Two arrays, and not one of pairs: the answers go into an analysis as they are, and the marks alone are searched.
+// What is noted at places 0 to N - 1: each one's answer, and a mark. Two arrays, and not one of pairs: the answers go into an analysis as they
+// are, and the marks alone are searched.
 #[derive(Clone, Copy)]
-pub struct TaskNotes {
-    pub answers: [Response; 64],
-    pub runs: [bool; 64],
+pub struct PlaceNotes<A, const N: usize> {
+    pub answers: [A; N],
+    pub marks: [bool; N],
 }
 
-// Notes the tasks of the server with a number. The first `n` numbers of `held` are its held ticks.
+// Notes the tasks of the server with a number, and marks those that run in the tick. The first `n` numbers of `held` are its held ticks.
 pub fn answer_tasks(
     table: Table,
     tick: u32,
     server: u32,
     n: usize,
     work: &mut Work<'_>,
-    notes: &mut TaskNotes,
+    notes: &mut PlaceNotes<Response, 64>,
 )
     requires { Obeyed table × ((i : ℕ) → server ≡ suc i → (i < table.servers_n) × (take n work.old.held.now ≡ held_of table i)) × (0 < server)
         × (n ≤ length work.old.held.now) × TasksNoted table tick (of_below table server) notes.old }
     ensures same { Same work.old work.new }
     ensures free { work.new.free.now ≡ work.old.free.now }
+    ensures sum { work.new.sum.now ≡ work.old.sum.now }
     ensures noted { TasksNoted table tick (of_below table (server + 1)) notes.new }
 {
     let mut left = n;
@@ -51,7 +52,7 @@ pub fn answer_tasks(
             );
             let ticks = &work.running[..counts.taken];
             notes.answers[j] = judge(*task, table.span, ticks);
-            notes.runs[j] = covers(ticks, tick);
+            notes.marks[j] = covers(ticks, tick);
             left = counts.left;
         }
     }

@@ -20,8 +20,8 @@ module _ (text : List ℕ) (tick : ℕ) (room : Bool) (w : Worked) (e : opened_o
   pub told_is : who_of text tick room ≡ Ok (told_by w)
   told_is =
       let r = opened_ready text tick room e in
-      let holder = marked_first (holds_at w.table tick) w.table.servers_n w.notes.servers.holds n.holds in
-      let runner = marked_first (runs_at w.table tick) w.table.tasks_n w.notes.tasks.runs n.runs in
+      let holder = marked_first (holds_at w.table tick) w.table.servers_n w.notes.servers.marks n.holds in
+      let runner = marked_first (runs_at w.table tick) w.table.tasks_n w.notes.tasks.marks n.runs in
       rw (holder, runner, r.roomy, r.accepted, lt-leb w.table.span tick r.within)
 
   pub listed_is : analysis_of text room ≡ Ok (listed_by w)

@@ -15,8 +15,8 @@ Works text tick room (Err refusal) = opened_of text tick room ≡ Err refusal
 
 abbrev pub told_by : Worked → Who
 told_by w = record {
-  holder = first_of (λ i. get_or w.notes.servers.holds i false) w.table.servers_n 0;
-  runner = first_of (λ j. get_or w.notes.tasks.runs j false) w.table.tasks_n 0;
+  holder = first_of (λ i. get_or w.notes.servers.marks i false) w.table.servers_n 0;
+  runner = first_of (λ j. get_or w.notes.tasks.marks j false) w.table.tasks_n 0;
 }
 
 abbrev pub listed_by : Worked → Analysis

@@ -74,8 +74,8 @@ fn told(worked: Worked) -> Who
     ensures { result ≡ told_by worked }
 {
     let Worked { table, notes } = worked;
-    let holder = first_marked(&notes.servers.holds[..table.servers_n]);
-    let runner = first_marked(&notes.tasks.runs[..table.tasks_n]);
+    let holder = first_marked(&notes.servers.marks[..table.servers_n]);
+    let runner = first_marked(&notes.tasks.marks[..table.tasks_n]);
     Who { holder, runner }
 }
 

@@ -15,6 +15,7 @@ loop-j-init c =
     record {
       same = search rules;
       free = refl;
+      sum = refl;
       noted = answering_starts a.table a.server (left_all a.table (a.server - 1) a.work.now.held.now a.n c.requires.3 placed.1) c.requires.4;
     }
 
@@ -67,11 +68,12 @@ loop-j-preserved c =
           rw (w.work-is, w.left-is, w.notes-is) (record {
             same = search rules;
             free = v.free;
+            sum = v.sum;
             noted = answering_own v.noted p.0 p.2 few own served left _ judged _ w.covers.ensures;
           })
       | else-task-server w ↦
           let other = rw same at w.if-task-server.false in
-          rw (w.work-is, w.left-is, w.notes-is) (record { same = v.same; free = v.free; noted = answering_other v.noted p.0 p.2 few other })
+          rw (w.work-is, w.left-is, w.notes-is) (record { same = v.same; free = v.free; sum = v.sum; noted = answering_other v.noted p.0 p.2 few other })
     ]
 
 pub returns-clause-noted : goal.returns-clause-noted

@@ -6,8 +6,8 @@ use Rattle.scheduling.proofs.told.Goals as goal
 pub returns : goal.returns
 returns c =
     let w = c.args.worked in
-    let servers : length w.notes.servers.holds ≡ 16 = search rules in
-    let tasks : length w.notes.tasks.runs ≡ 64 = search rules in
-    let holder = c.first_marked-holder.ensures ∙ front_marked w.table.servers_n w.notes.servers.holds (omega arith) in
-    let runner = c.first_marked-runner.ensures ∙ front_marked w.table.tasks_n w.notes.tasks.runs (omega arith) in
+    let servers : length w.notes.servers.marks ≡ 16 = search rules in
+    let tasks : length w.notes.tasks.marks ≡ 64 = search rules in
+    let holder = c.first_marked-holder.ensures ∙ front_marked w.table.servers_n w.notes.servers.marks (omega arith) in
+    let runner = c.first_marked-runner.ensures ∙ front_marked w.table.tasks_n w.notes.tasks.marks (omega arith) in
     cc
