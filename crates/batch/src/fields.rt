@@ -1,5 +1,18 @@
 // Reading a line's fields, one after the other: decimal numbers that are parted by single spaces.
+ghost use Rattle.std.specs.Prelude.{◌≡◌, ◌≢◌, ◌≤◌, ◌↔◌, ℕ, List, ◌∷◌, [], IfSome, Some, None, take, drop, length, get_or};
+ghost use Rattle.std.specs.Char.{is_ascii_digit};
+ghost use Rattle.std.specs.List.{prefix_len};
+ghost use Rattle.std.specs.Str.Parse.{digits_value};
+
 use std::str;
+
+// How many of the first bytes are digits.
+fn digits_first(text: &[u8]) -> usize
+    ensures first { result ≡ prefix_len is_ascii_digit text.now }
+    ensures within { result ≤ length text.now }
+{
+    text.iter().take_while(|byte| byte.is_ascii_digit()).count()
+}
 
 // What is not yet read of a line.
 #[derive(Clone, Copy)]
@@ -9,40 +22,52 @@ pub struct Fields<'a> {
 
 impl<'a> Fields<'a> {
     // All fields of a line.
-    pub fn of(line: &'a [u8]) -> Self {
+    pub fn of(line: &'a [u8]) -> Self
+        ensures { result.rest.now ≡ line.now }
+    {
         Fields { rest: line }
     }
 
     // Reads the number whose digits come next, if it has 32 bits.
-    pub fn number(&mut self) -> Option<u32> {
-        let count = self
-            .rest
-            .iter()
-            .take_while(|byte| byte.is_ascii_digit())
-            .count();
-        let (digits, rest) = self.rest.split_at(count);
+    pub fn number(&mut self) -> Option<u32>
+        ensures behind { self.new.rest.now ≡ drop (prefix_len is_ascii_digit self.old.rest.now) self.old.rest.now }
+        ensures read { IfSome result (λ number. number ≡ digits_value 10 (take (prefix_len is_ascii_digit self.old.rest.now) self.old.rest.now)) }
+    {
+        let (digits, rest) = self.rest.split_at(digits_first(self.rest));
         self.rest = rest;
         str::from_utf8(digits).ok()?.parse().ok()
     }
 
     // Reads the space that comes next.
-    pub fn space(&mut self) -> Option<()> {
+    pub fn space(&mut self) -> Option<()>
+        ensures read { IfSome result (λ u. self.old.rest.now ≡ 32 ∷ self.new.rest.now) }
+        ensures none { result ≡ None → (rest : List ℕ) → self.old.rest.now ≢ 32 ∷ rest }
+    {
         self.rest = self.rest.strip_prefix(b" ")?;
         Some(())
     }
 
     // Reads a space and the number behind it.
-    pub fn next_number(&mut self) -> Option<u32> {
+    pub fn next_number(&mut self) -> Option<u32>
+        ensures parted { IfSome result (λ number. get_or self.old.rest.now 0 0 ≡ 32) }
+        ensures behind { (rest : List ℕ) → self.old.rest.now ≡ 32 ∷ rest → self.new.rest.now ≡ drop (prefix_len is_ascii_digit rest) rest }
+        ensures read { (rest : List ℕ) → self.old.rest.now ≡ 32 ∷ rest → IfSome result (λ number. number ≡ digits_value 10 (take (prefix_len is_ascii_digit rest) rest)) }
+    {
         self.space()?;
         self.number()
     }
 
+    // Reads a space and the number behind it, if it is not above a limit.
+    pub fn number_up_to(&mut self, most: u32) -> Option<u32>
+        ensures { IfSome result (λ number. number ≤ most) }
+    {
+        self.next_number().filter(|number| *number <= most)
+    }
+
     // Reads the line's end.
-    pub fn end(self) -> Option<()> {
-        if self.rest == b"\n".as_slice() {
-            Some(())
-        } else {
-            None
-        }
+    pub fn end(self) -> Option<()>
+        ensures at_end { (result ≡ Some tt) ↔ (self.entry.rest.now ≡ 10 ∷ []) }
+    {
+        (self.rest == b"\n".as_slice()).then_some(())
     }
 }

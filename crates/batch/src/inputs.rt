@@ -12,6 +12,7 @@ const INPUT: usize = 1_048_576;
 // What is held of standard input: so many bytes, of which so many, from the first, are whole lines; and whether no more come.
 #[derive(Drop)]
 struct Input {
+    // an array and two counts: the kit's `io` fills a slice, and the room behind what is held has to be one
     room: [u8; INPUT],
     lines: usize,
     held: usize,

@@ -12,13 +12,13 @@ use output::Output;
 use std::fmt;
 use std::fmt::Write;
 
-// The numbers under which a program reads its standard input and writes its standard output.
+// The numbers under which a program reads its standard input and writes its standard output: the kit's `io` takes them so.
 const STANDARD_INPUT: i32 = 0;
 
 const STANDARD_OUTPUT: i32 = 1;
 
 // More bytes than a table's text may have: of a longer input, no more has to be read.
-const TEXT: usize = 5000;
+pub const TEXT: usize = 5000;
 
 // Writes bytes to standard output. What it does not take is lost.
 pub fn write(bytes: &[u8]) {
@@ -37,4 +37,19 @@ pub fn answer_text<F: FnOnce(&[u8])>(answer: F)
 // Puts the answer to a line that asks for nothing.
 pub fn put_bad(out: &mut Output) -> fmt::Result {
     writeln!(out, "bad")
+}
+
+// Copies a line that starts with `#`, and answers any other: where it asks for nothing there is no answer, and `bad` is put.
+pub fn copy_or_answer<F: FnOnce(&[u8], &mut Output) -> Option<fmt::Result>>(
+    line: &[u8],
+    out: &mut Output,
+    answer: F,
+) -> fmt::Result
+    requires { F.IsAlwaysCallable answer }
+{
+    if line.starts_with(b"#") {
+        out.put_bytes(line);
+        return Ok(());
+    }
+    answer(line, out).unwrap_or_else(|| put_bad(out))
 }

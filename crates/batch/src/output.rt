@@ -1,7 +1,8 @@
 // Standard output, written through a room for the bytes that wait.
-ghost use Rattle.std.specs.Prelude.{◌≡◌, ◌≤◌};
+ghost use Rattle.std.specs.Prelude.{◌≡◌, []};
 
 use crate::write;
+use arrayvec::ArrayVec;
 use std::fmt;
 
 // How many bytes wait at most.
@@ -10,35 +11,33 @@ const ROOM: usize = 65536;
 // The bytes that wait to be written to standard output. When the room is full they are written at once.
 #[derive(Drop)]
 pub struct Output {
-    room: [u8; ROOM],
-    waiting: usize,
-    ghost within: { waiting ≤ 65536 },
+    waiting: ArrayVec<u8, ROOM>,
 }
 
 impl Output {
     // Nothing waits.
-    pub fn new() -> Self {
+    pub fn new() -> Self
+        ensures { result.waiting.items ≡ [] }
+    {
         Output {
-            room: [0; ROOM],
-            waiting: 0,
+            waiting: ArrayVec::new(),
         }
     }
 
     // Writes the bytes that wait.
     pub fn flush(&mut self)
-        ensures { self.new.waiting ≡ 0 }
+        ensures { self.new.waiting.items ≡ [] }
     {
-        write(&self.room[..self.waiting]);
-        self.waiting = 0;
+        write(&self.waiting);
+        self.waiting.clear();
     }
 
     // Puts one byte.
     pub fn put_byte(&mut self, byte: u8) {
-        if self.waiting == ROOM {
+        if self.waiting.is_full() {
             self.flush();
         }
-        self.room[self.waiting] = byte;
-        self.waiting += 1;
+        self.waiting.push(byte);
     }
 
     // Puts bytes as they are.

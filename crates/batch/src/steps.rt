@@ -22,9 +22,7 @@ pub fn keep_rest(room: &mut [u8], lines: usize, held: usize) -> usize
     requires within { held ≤ length room.old }
     ensures { Moved room.old room.new lines held result }
 {
-    for i in lines..held {
-        room[i - lines] = room[i];
-    }
+    room.copy_within(lines..held, 0);
     held - lines
 }
 
