@@ -12,7 +12,7 @@ use buffers::work::Work;
 use judging::covering::covers;
 use judging::periods::answer_server;
 use noting::{PlaceNotes, answer_tasks};
-use serving::hold_server;
+use serving::hold_in_work;
 use table::Table;
 
 // What is noted of the servers, and which hold the tick asked for; and of the tasks, and which run in it.
@@ -51,7 +51,7 @@ pub fn answer_all(table: Table, tick: u32, work: &mut Work<'_>) -> Notes
     let mut n = put(work.free, 0, 0, table.span);
     for (i, server) in table.servers[..table.servers_n].iter().enumerate() {
         notes.servers.answers[i] = answer_server(*server, table.span, work.free_curve(n));
-        let counts = hold_server(table, i, n, work);
+        let counts = hold_in_work(table, i, n, work);
         notes.servers.marks[i] = covers(work.held_curve(counts.taken), tick);
         answer_tasks(
             table,

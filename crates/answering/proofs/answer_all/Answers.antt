@@ -25,8 +25,8 @@ answer_server-requires c =
     let curve = freed_curve table ok _ _ _ _ c.loop-i.invariant.noted.freed (omega (arith, c.args.work.now.roomy.of_free, c.put-n.ensures.same)) in
     rw (server_is table ok _ h, c.free_curve.ensures) (server_period table ok _ (counted table ok _ h), span_most table ok, curve.curve.plain)
 
-pub hold_server-counts-requires : goal.hold_server-counts-requires
-hold_server-counts-requires c =
+pub hold_in_work-counts-requires : goal.hold_in_work-counts-requires
+hold_in_work-counts-requires c =
     let ok = c.requires in
     let table = c.args.table in
     let curve = freed_curve table ok _ _ _ _ c.loop-i.invariant.noted.freed (omega (arith, c.args.work.now.roomy.of_free, c.put-n.ensures.same)) in
@@ -39,7 +39,7 @@ loop-i-preserved c =
     let h = c.loop-i-test.true in
     let few = counted table ok _ h in
     let v = c.loop-i.invariant.noted in
-    let counts = c.hold_server-counts.ensures in
+    let counts = c.hold_in_work-counts.ensures in
     let held = freed_held table ok _ _ _ _ v.freed counts.held in
     let next = freed_next table ok _ _ _ _ v.freed few counts.left in
     let answer = rw (server_is table ok _ h, c.free_curve.ensures) at c.answer_server.ensures in
