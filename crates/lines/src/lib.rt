@@ -2,7 +2,6 @@
 #![tactic(auto)]
 
 ghost use Rattle.std.specs.Prelude.{◌≡◌, Ok, Err};
-ghost use Rattle.basics.specs.Choice.{pick};
 ghost use Rattle.fields.specs.Fields.{field_at, same_bytes, dash, field_number};
 ghost use Rattle.lines.specs.Pieces.{ReadAt};
 ghost use Rattle.lines.specs.Lines.{wrong_at, counted, ranged, task_placed, kind_of, deadline_of, server_is, task_is, span_line, server_line, once_line, every_line, line_of};
@@ -10,7 +9,7 @@ ghost use Rattle.lines.specs.Lines.{wrong_at, counted, ranged, task_placed, kind
 use fields::Word;
 use fields::parting::{count, field, same};
 use fields::values::{number, word};
-use refusals::Ground;
+use refusals::{Ground, required};
 use table::ranges::{in_ticks, within};
 use table::{Kind, Release, Server, Task};
 
@@ -29,36 +28,32 @@ pub struct Wrong {
     pub place: u32,
 }
 
-// A test of a line. Of several, one behind the other, the first that fails decides.
-fn required(holds: bool, ground: Ground, place: u32) -> Result<(), Wrong>
-    ensures { result ≡ pick holds (Ok tt) (Err (wrong_at ground place)) }
+// What is wrong, and at which place.
+fn wrong_at(ground: Ground, place: u32) -> Wrong
+    ensures { result ≡ wrong_at ground place }
 {
-    if holds {
-        Ok(())
-    } else {
-        Err(Wrong { ground, place })
-    }
+    Wrong { ground, place }
 }
 
-// The test that a line has `n` fields.
+// The test that a line has `n` fields. Of several tests, one behind the other, the first that fails decides.
 fn counted(line: &[u8], n: usize) -> Result<(), Wrong>
     ensures { result ≡ counted line.now n (Ok tt) }
 {
-    required(count(line) == n, Ground::FieldCount, 0)
+    required(count(line) == n, wrong_at(Ground::FieldCount, 0))
 }
 
 // The test that the number at a place is in its range.
 fn ranged(holds: bool, place: u32) -> Result<(), Wrong>
     ensures { result ≡ ranged holds place (Ok tt) }
 {
-    required(holds, Ground::OutOfRange, place)
+    required(holds, wrong_at(Ground::OutOfRange, place))
 }
 
 // What the field at a place is read as, or what is wrong with it.
 fn at<T>(read: Result<T, Ground>, place: u32) -> Result<T, Wrong>
     ensures { ReadAt read place result }
 {
-    read.map_err(|ground| Wrong { ground, place })
+    read.map_err(|ground| wrong_at(ground, place))
 }
 
 // The field at a place, the line's first word being 1.
@@ -208,26 +203,22 @@ fn every_line(servers: usize, line: &[u8]) -> Result<Line, Wrong>
 fn task_placed(servers: usize, tasks: usize) -> Result<(), Wrong>
     ensures { result ≡ task_placed servers tasks (Ok tt) }
 {
-    required(0 < servers, Ground::Misplaced, 0)?;
-    required(tasks < 64, Ground::TooMany, 0)
+    required(0 < servers, wrong_at(Ground::Misplaced, 0))?;
+    required(tasks < 64, wrong_at(Ground::TooMany, 0))
 }
 
 // What line `n` says, behind so many servers and tasks.
 pub fn read_line(line: &[u8], n: u32, servers: usize, tasks: usize) -> Result<Line, Wrong>
     ensures { result ≡ line_of n servers tasks line.now }
 {
-    let misplaced = Wrong {
-        ground: Ground::Misplaced,
-        place: 0,
-    };
-    match word(field_at(line, 1)).ok_or(misplaced)? {
+    match word(field_at(line, 1)).ok_or(wrong_at(Ground::Misplaced, 0))? {
         Word::Span => {
-            required(n == 1, Ground::Misplaced, 0)?;
+            required(n == 1, wrong_at(Ground::Misplaced, 0))?;
             span_line(line)
         }
         Word::Server => {
-            required(1 < n && tasks == 0, Ground::Misplaced, 0)?;
-            required(servers < 16, Ground::TooMany, 0)?;
+            required(1 < n && tasks == 0, wrong_at(Ground::Misplaced, 0))?;
+            required(servers < 16, wrong_at(Ground::TooMany, 0))?;
             server_line(line)
         }
         Word::Once => {

@@ -87,11 +87,11 @@ impl From<Ground> for Refusal {
     }
 }
 
-// What a call asks for: where it does not hold, the call is refused on the ground.
-pub fn required(holds: bool, ground: Ground) -> Result<(), Refusal>
-    ensures { result ≡ (if holds then Ok tt else Err (refused_at ground 0 0)) }
+// What a call or a line asks for: where it does not hold, the error says on which ground it is refused.
+pub fn required<E: Copy>(holds: bool, error: E) -> Result<(), E>
+    ensures { result ≡ (if holds then Ok tt else Err error) }
 {
-    if holds { Ok(()) } else { Err(ground.into()) }
+    if holds { Ok(()) } else { Err(error) }
 }
 
 // Where nothing is refused.
