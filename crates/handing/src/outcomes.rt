@@ -37,7 +37,7 @@ pub fn hand_counts(
     number_in(&fitted)
 }
 
-// Hands out when an amount was provided, 0 if it was not.
+// Hands out when an amount was provided, 0 if it was not, as the C header says.
 pub fn hand_instant(provided: Result<Option<u32>, Refusal>, instant: &mut u32) -> u32
     ensures { (result ≡ number_in provided) × (instant.new ≡ handed instant_or0 provided instant.old) }
 {

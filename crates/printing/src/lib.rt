@@ -132,7 +132,7 @@ fn put_lines<T: Entry>(page: &mut Page<'_>, entries: &[T])
     }
 }
 
-// Puts the report of an analysis.
+// Puts the report of an analysis, whose counts stand beside its arrays: that is how the calls for C hand it out.
 fn put_analysis(page: &mut Page<'_>, analysis: Analysis)
     requires counts { (analysis.servers_n ≤ 16) × (analysis.tasks_n ≤ 64) }
     requires room { page.old.count + 4240 ≤ 1000000 }

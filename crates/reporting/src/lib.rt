@@ -7,6 +7,7 @@ ghost use Rattle.printing.specs.Report.{report_of};
 ghost use Rattle.reporting.specs.Reporting.{Reports};
 
 use answers::Analysis;
+use opening::ROOM;
 use printing::put_report;
 use refusals::{Ground, Refusal, required};
 
@@ -14,12 +15,14 @@ use refusals::{Ground, Refusal, required};
 fn analysed(text: &[u8]) -> Result<Analysis, Refusal>
     ensures { result ≡ analysis_of text.now true }
 {
-    let mut free = [0u32; 16000];
-    let mut sum = [0u32; 16000];
-    let mut part = [0u32; 16000];
-    let mut held = [0u32; 16000];
-    let mut running = [0u32; 16000];
-    let mut spare = [0u32; 16000];
+    let [
+        mut free,
+        mut sum,
+        mut part,
+        mut held,
+        mut running,
+        mut spare,
+    ] = [[0u32; ROOM]; 6];
     scheduling::analyse(
         text,
         &mut free,

@@ -1,4 +1,5 @@
-// How many bytes the text of a table has, counted in one pass over its entries.
+// How many bytes the text of a table has, counted in one pass over its entries: it is promised that the length is known before the first byte is
+// written, so it is not what the writers answer.
 ghost use Rattle.std.specs.Prelude.{◌≡◌, ◌*◌, ◌≤◌, length, map};
 ghost use Rattle.writing.specs.Text.{ended, text_of};
 
