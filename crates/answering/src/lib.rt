@@ -41,7 +41,8 @@ pub fn no_notes() -> Notes
     Notes { servers, tasks }
 }
 
-// Notes the servers and their tasks, going down the servers.
+// Notes the servers and their tasks, going down the servers. `n` stands beside `work`, and is no field of it: it counts the free ticks here, the held
+// ones in `answer_tasks`, and a field for each would have to be told of in every contract on `Work`.
 pub fn answer_all(table: Table, tick: u32, work: &mut Work<'_>) -> Notes
     requires { Obeyed table }
     ensures same { Same work.old work.new }
@@ -66,7 +67,7 @@ pub fn answer_all(table: Table, tick: u32, work: &mut Work<'_>) -> Notes
     notes
 }
 
-// The number of the first place that is marked, or 0.
+// The number of the first place that is marked, or 0 for none, as `first_of` of the contracts has it.
 pub fn first_marked(marks: &[bool]) -> u32
     requires { length marks.now ≤ 64 }
     ensures { result ≡ first_of (λ i. get_or marks.now i false) (length marks.now) 0 }

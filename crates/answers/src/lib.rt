@@ -10,6 +10,7 @@ pub struct WorstJob {
 }
 
 // A task's answer: the worst response; or the release of the first job that has not ended with the span; or nothing, if no job is released in it.
+// It has a `None` of its own, and is no `Option` of the two others: these are three answers in the report's words.
 #[derive(Clone, Copy)]
 pub enum Response {
     Worst(WorstJob),
@@ -25,6 +26,7 @@ pub struct ServerAnswer {
 }
 
 // The answers of a table's servers and tasks, as many as it has, and its span; those beyond its counts have no periods and are `None`.
+// That the counts fit (16, 64) is no ghost field: `analysed` of scheduling's specs is the analysis of any table, and has no proof of it to give.
 #[derive(Clone, Copy)]
 pub struct Analysis {
     pub span: u32,

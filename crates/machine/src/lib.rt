@@ -15,7 +15,8 @@ ghost use Rattle.machine.specs.Run.{all_zero};
 use refusals::{Ground, Refusal, required};
 use table::Table;
 
-// Before a tick: its number, each server's budget, each task's waiting work.
+// Before a tick: its number, each server's budget, each task's waiting work. The table is a parameter beside it, and no field: C keeps a state by
+// itself and hands in the table with each step.
 #[derive(Clone, Copy)]
 pub struct State {
     pub tick: u32,
@@ -31,7 +32,7 @@ pub struct Step {
     pub runner: u32,
 }
 
-// The state before tick 0.
+// The state before tick 0. A function, and no `Default`: docs/PROMISES.md names `machine::start`.
 pub fn start() -> State
     ensures { result ≡ all_zero }
 {

@@ -1,4 +1,4 @@
-// (3) and (4) Who holds the tick, and who runs in it.
+// (3) and (4) Who holds the tick, and who runs in it. Numbers count from 1, and 0 is none, as `holder_of` and `runner_of` of the contracts have it.
 ghost use Rattle.std.specs.Prelude.{◌≡◌, ◌≤◌};
 ghost use Rattle.machine.specs.Machine.{may_hold, holder_of};
 ghost use Rattle.table.specs.Places.{Obeyed};

@@ -1,4 +1,4 @@
-// The grounds of refusal 13.
+// The grounds of refusal 13. Each asks for its count alone, and the counts are no fact of `Table`: C may hand in any, and `obeys_rules` refuses them.
 ghost use Rattle.std.specs.Prelude.{◌≡◌, ◌≤◌};
 ghost use Rattle.table.specs.Places.{none_of};
 ghost use Rattle.machine.specs.Machine.{over_budget, over_work, accepts};

@@ -3,7 +3,7 @@ ghost use Rattle.std.specs.Prelude.{◌≡◌, ◌≤◌, length};
 ghost use Rattle.machine.specs.Machine.{one_less};
 ghost use Rattle.machine.specs.Parts.{Has};
 
-// The entry of a number loses one; for 0 none does.
+// The entry of a number loses one; for 0, which is none as `one_less` of the contracts has it, none does.
 pub fn lose_one(entries: &mut [u32], number: u32)
     requires { (number ≤ length entries.old) × Has entries.old number }
     ensures { entries.new ≡ one_less entries.old number }

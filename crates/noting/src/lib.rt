@@ -22,7 +22,8 @@ pub struct PlaceNotes<A, const N: usize> {
     pub marks: [bool; N],
 }
 
-// Notes the tasks of the server with a number, and marks those that run in the tick. The first `n` numbers of `held` are its held ticks.
+// Notes the tasks of the server with a number, and marks those that run in the tick. The first `n` numbers of `held` are its
+// held ticks.
 pub fn answer_tasks(
     table: Table,
     tick: u32,

@@ -9,7 +9,8 @@ use reading::read;
 use refusals::{Ground, Refusal, required};
 use table::Table;
 
-// The least that a work buffer holds.
+// The least that a work buffer holds: two numbers for each of the at most 8,000 windows of a curve. No one constant with `table`, whose 16,000 are
+// ticks of a span.
 pub const ROOM: usize = 16_000;
 
 // Whether each of the work buffers holds enough.

@@ -15,7 +15,7 @@ use opening::open_text;
 use refusals::Refusal;
 use table::Table;
 
-// Who holds a tick and who runs in it, 0 for none.
+// Who holds a tick and who runs in it. 0 is none, as at `machine::Step`, since the calls for C hand them out so.
 #[derive(Clone, Copy)]
 pub struct Who {
     pub holder: u32,
@@ -29,7 +29,8 @@ struct Worked {
     notes: Notes,
 }
 
-// Works out the notes of a text's table and of a tick; every number of the work buffers is then 0.
+// Works out the notes of a text's table and of a tick; every number of the work buffers is then 0. The buffers are six slices here and in the two
+// calls, since C lends six, of any length; a `Work` is made of them once each has room.
 fn work_out(
     text: &[u8],
     tick: u32,
