@@ -65,24 +65,22 @@ impl fmt::Display for Became {
     }
 }
 
+// Whether numbers are as they were, where the first stands at a place of its array.
+fn is_same(numbers: &[u32], start: usize) -> bool {
+    numbers
+        .iter()
+        .zip(BEFORE.skip(start))
+        .all(|(number, before)| *number == before)
+}
+
 impl Became {
     // What became of an array whose first `room` numbers were lent. No number was 0 before.
     fn of(array: &[u32], room: usize) -> Self {
-        if array
-            .iter()
-            .zip(BEFORE)
-            .all(|(number, before)| *number == before)
-        {
+        if is_same(array, 0) {
             return Became::Same;
         }
         let (lent, guard) = array.split_at(room.min(array.len()));
-        let guards = BEFORE.skip(lent.len());
-        if lent.iter().all(|number| *number == 0)
-            && guard
-                .iter()
-                .zip(guards)
-                .all(|(number, before)| *number == before)
-        {
+        if lent.iter().all(|number| *number == 0) && is_same(guard, lent.len()) {
             return Became::Zero;
         }
         Became::Other

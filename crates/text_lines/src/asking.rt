@@ -3,11 +3,9 @@
 ghost use Rattle.std.specs.Prelude.{◌≤◌, IfSome};
 
 use arrayvec::ArrayVec;
+use batch::TEXT;
 use batch::decoding::decode;
 use batch::fields::Fields;
-
-// The most bytes that a table's text may have here.
-const TEXT: usize = 5000;
 
 // The most numbers that are lent in a work buffer.
 const LENT: u32 = 16_008;
@@ -48,12 +46,7 @@ pub struct Asked {
 fn read_room(fields: &mut Fields) -> Option<usize>
     ensures { IfSome result (λ room. room ≤ 16008) }
 {
-    let room = fields.next_number()?;
-    if room <= LENT {
-        Some(room as usize)
-    } else {
-        None
-    }
+    Some(fields.number_up_to(LENT)? as usize)
 }
 
 // Reads how much of the six work buffers is lent.

@@ -20,7 +20,7 @@ use tasks::task_answer;
 // The most ticks that a span has.
 const TICKS: usize = 16_000;
 
-// Steps the machine from tick 0 on, and notes each tick's holder and runner, 0 for none.
+// Steps the machine from tick 0 on, and notes each tick's holder and runner, 0 for none, as the machine's step hands them out.
 fn watch(table: Table, holders: &mut [u32], runners: &mut [u32]) -> Result<(), Refusal> {
     let mut state = machine::start();
     for (holder, runner) in holders.iter_mut().zip(runners.iter_mut()) {
@@ -38,6 +38,7 @@ fn analysed(text: &[u8]) -> Result<Analysis, Refusal>
 {
     let table = read(text)?;
     let ticks = TICKS.min(table.span as usize);
+    // two arrays, since the servers are counted from the holders alone, and the tasks from the runners
     let mut holders = [0u32; TICKS];
     let mut runners = [0u32; TICKS];
     watch(table, &mut holders[..ticks], &mut runners[..ticks])?;

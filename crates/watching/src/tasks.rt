@@ -1,4 +1,5 @@
-// What is counted of the tasks: their jobs end in order of release, each when it has run for its work.
+// What is counted of the tasks: their jobs end in order of release, each when it has run for its work. Margin, worst job and releases stand here
+// and in the crates of the curves: the machine's report shares nothing with the analysis that it is held against.
 ghost use Rattle.std.specs.Prelude.{◌≤◌, length};
 
 use answers::{Response, WorstJob};
@@ -56,10 +57,10 @@ impl Jobs {
         };
         self.ended = with_job(self.ended, release, finish, task.deadline);
         self.ran = 0;
-        self.release = match task.release {
-            Release::Once(_) => None,
-            Release::Every(_, period) => release.checked_add(period),
-        };
+        self.release = task
+            .release
+            .period()
+            .and_then(|period| release.checked_add(period));
     }
 
     // The answer with the span: a job released in it has not ended, or all have.

@@ -12,12 +12,12 @@
 
 use batch::fields::Fields;
 use batch::output::Output;
-use batch::{answer_lines, put_bad};
+use batch::{answer_lines, copy_or_answer};
 use call_lines::put_lent;
 use entries::table_from;
 use std::fmt;
 
-// What a line has: how much is lent, and the parts of a table that is handed in.
+// What a line has: how much is lent, and the parts of a table that is handed in, arrays and counts as `table_from` takes them.
 #[derive(Clone, Copy)]
 struct Handed {
     room: usize,
@@ -60,15 +60,9 @@ fn read_line(line: &[u8]) -> Option<Handed> {
     })
 }
 
-// Answers a line.
-fn answer_line(line: &[u8], out: &mut Output) -> fmt::Result {
-    if line.starts_with(b"#") {
-        out.put_bytes(line);
-        return Ok(());
-    }
-    let Some(handed) = read_line(line) else {
-        return put_bad(out);
-    };
+// Answers a line; none where it has another form.
+fn answer_line(line: &[u8], out: &mut Output) -> Option<fmt::Result> {
+    let handed = read_line(line)?;
     let table = table_from(
         handed.span,
         handed.servers_n,
@@ -76,10 +70,11 @@ fn answer_line(line: &[u8], out: &mut Output) -> fmt::Result {
         &handed.servers,
         &handed.tasks,
     );
-    put_lent(out, handed.room, |bytes| writing::write(table, bytes))
+    let room = handed.room;
+    Some(put_lent(out, room, |bytes| writing::write(table, bytes)))
 }
 
 // Answers the lines of standard input.
 fn main() {
-    answer_lines(answer_line);
+    answer_lines(|line, out| copy_or_answer(line, out, answer_line));
 }
