@@ -28,21 +28,21 @@ fn wanted(table: Table, i: usize, sum: &mut [u32], part: &mut [u32], spare: &mut
     }
 }
 
-// Writes the ticks that a server holds of the free curve that the first `n` numbers of `free` are, and leaves there those that it does not.
-pub fn hold_server(table: Table, i: usize, n: usize, work: &mut Work<'_>) -> Counts
-    requires { Obeyed table × (i < table.servers_n) × Curve work.old.free.now n table.span }
+// Writes the ticks that a server holds of the free curve that the first `count` numbers of `free` are, and leaves there those that it does not.
+pub fn hold_server(table: Table, i: usize, count: usize, work: &mut Work<'_>) -> Counts
+    requires { Obeyed table × (i < table.servers_n) × Curve work.old.free.now count table.span }
     ensures same { Same work.old work.new }
-    ensures held { Wrote work.old.held.now work.new.held.now result.taken (held_in table i (take n work.old.free.now)) }
+    ensures held { Wrote work.old.held.now work.new.held.now result.taken (held_in table i (take count work.old.free.now)) }
     ensures left { Wrote work.old.free.now work.new.free.now result.left
-        (without table.span (take n work.old.free.now) (held_in table i (take n work.old.free.now))) }
+        (without table.span (take count work.old.free.now) (held_in table i (take count work.old.free.now))) }
 {
     let server = table.servers[i];
-    let m = wanted(table, i, work.sum, work.part, work.spare);
+    let wanted = wanted(table, i, work.sum, work.part, work.spare);
     let counts = hold(
         server.capacity,
         server.period,
-        &work.sum[..m],
-        &work.free[..n],
+        &work.sum[..wanted],
+        &work.free[..count],
         work.held,
         work.spare,
     );
@@ -53,23 +53,24 @@ pub fn hold_server(table: Table, i: usize, n: usize, work: &mut Work<'_>) -> Cou
 // More ticks than a span has: a capacity of so many in each period of so many is no limit.
 const ALL: u32 = 16_000;
 
-// Writes the ticks in which a task runs, of the held ticks that the first `n` numbers of `held` are, and leaves there those in which it does not.
+// Writes the ticks in which a task runs, of the held ticks that the first `count` numbers of `held` are, and leaves there those in which it does not.
+// With the whole `Work` it would need a clause for every buffer that it leaves alone.
 pub fn share(
     task: Task,
     span: u32,
-    n: usize,
+    count: usize,
     held: &mut [u32],
     part: &mut [u32],
     running: &mut [u32],
     spare: &mut [u32],
 ) -> Counts
-    requires { TaskObeyed task × (0 < span) × (span ≤ 16000) × Curve held.old n span × (16000 ≤ length part.old) × (16000 ≤ length running.old)
+    requires { TaskObeyed task × (0 < span) × (span ≤ 16000) × Curve held.old count span × (16000 ≤ length part.old) × (16000 ≤ length running.old)
         × (16000 ≤ length spare.old) }
-    ensures { Wrote running.old running.new result.taken (fit (demand_of span task) (take n held.old)).served
-        × Wrote held.old held.new result.left (fit (demand_of span task) (take n held.old)).left }
+    ensures { Wrote running.old running.new result.taken (fit (demand_of span task) (take count held.old)).served
+        × Wrote held.old held.new result.left (fit (demand_of span task) (take count held.old)).left }
 {
-    let m = demand(task, span, part);
-    let counts = hold(ALL, ALL, &part[..m], &held[..n], running, spare);
+    let demanded = demand(task, span, part);
+    let counts = hold(ALL, ALL, &part[..demanded], &held[..count], running, spare);
     held[..counts.left].copy_from_slice(&spare[..counts.left]);
     counts
 }
