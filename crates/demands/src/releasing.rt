@@ -34,23 +34,21 @@ pub fn demand(task: Task, span: u32, out: &mut [u32]) -> usize
     requires { TaskObeyed task × (span ≤ 16000) × (16000 ≤ length out.old) }
     ensures { Wrote out.old out.new result (demand_of span task) }
 {
-    let release = task.release;
-    let work = task.work;
-    let mut s = first_release(release);
-    if span <= s {
+    let mut start = first_release(task.release);
+    if span <= start {
         return 0;
     }
-    let mut e = s + work;
-    let mut n: usize = 0;
-    let mut r = next_release(release, s);
-    while r < span {
-        if e < r {
-            n = put(out, n, s, e);
-            s = r;
-            e = r;
+    let mut end = start + task.work;
+    let mut count: usize = 0;
+    let mut release = next_release(task.release, start);
+    while release < span {
+        if end < release {
+            count = put(out, count, start, end);
+            start = release;
+            end = release;
         }
-        e += work;
-        r = next_release(release, r);
+        end += task.work;
+        release = next_release(task.release, release);
     }
-    put(out, n, s, e.min(span))
+    put(out, count, start, end.min(span))
 }

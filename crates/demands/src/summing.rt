@@ -27,30 +27,31 @@ fn add_below(a: &[u32], b: &[u32], span: u32, out: &mut [u32]) -> usize
     ensures wrote { Wrote out.old out.new result (below span (add_up a.now b.now)) }
     ensures fits { result ≤ 16000 }
 {
-    let n = walks::write(Sum::of(a, b), out);
-    cut_off(&mut out[..n], span);
-    n
+    let count = walks::write(Sum::of(a, b), out);
+    cut_off(&mut out[..count], span);
+    count
 }
 
-// Adds a task's demand to the sum that the first `n` numbers of a buffer are.
+// Adds a task's demand to the sum that the first `summed` numbers of a buffer are.
 fn add_task(
     task: Task,
     span: u32,
-    n: usize,
+    summed: usize,
     sum: &mut [u32],
     part: &mut [u32],
     spare: &mut [u32],
 ) -> usize
-    requires { TaskObeyed task × (0 < span) × (span ≤ 16000) × Curve sum.old n span × (16000 ≤ length part.old) × (16000 ≤ length spare.old) }
-    ensures { Wrote sum.old sum.new result (below span (add_up (take n sum.old) (demand_of span task))) }
+    requires { TaskObeyed task × (0 < span) × (span ≤ 16000) × Curve sum.old summed span × (16000 ≤ length part.old) × (16000 ≤ length spare.old) }
+    ensures { Wrote sum.old sum.new result (below span (add_up (take summed sum.old) (demand_of span task))) }
 {
-    let m = demand(task, span, part);
-    let k = add_below(&sum[..n], &part[..m], span, spare);
-    sum[..k].copy_from_slice(&spare[..k]);
-    k
+    let demanded = demand(task, span, part);
+    let added = add_below(&sum[..summed], &part[..demanded], span, spare);
+    sum[..added].copy_from_slice(&spare[..added]);
+    added
 }
 
-// Writes the summed demand of the tasks of the server with a number.
+// Writes the summed demand of the tasks of the server with a number. With the whole `Work` each function here would need a clause for every
+// buffer that it leaves alone.
 pub fn sum_tasks(
     table: Table,
     server: u32,
@@ -61,11 +62,11 @@ pub fn sum_tasks(
     requires { Obeyed table × (0 < server) × (16000 ≤ length sum.old) × (16000 ≤ length part.old) × (16000 ≤ length spare.old) }
     ensures { Wrote sum.old sum.new result (summed table (server - 1)) }
 {
-    let mut n = 0;
+    let mut count = 0;
     for task in &table.tasks[..table.tasks_n] {
         if task.server == server {
-            n = add_task(*task, table.span, n, sum, part, spare);
+            count = add_task(*task, table.span, count, sum, part, spare);
         }
     }
-    n
+    count
 }

@@ -1,33 +1,33 @@
--- Whether a curve covers a tick, by its first window. Assumes nothing.
-use Rattle.std.proofs.Common.{ℕ, ◌≡◌, ◌+◌, ◌-◌, ◌≤◌, ◌<◌, List, [], ◌∷◌, ltb, true, false, length, get_or, take, drop, refl, sym, ap, arith}
-use Rattle.std.proofs.Math.Seq.{take_all}
+-- Whether a curve covers a tick, by its windows. Assumes nothing.
+use Prim.Native.Nat.{ℕ, zero, suc, ◌+◌, ◌≤◌, ◌<◌}
+use mathlib.Core.Path.{◌≡◌, refl, sym, ap, ◌∙◌}
+use mathlib.Core.List.{List, [], ◌∷◌}
+use mathlib.Core.Bool.{Bool, true, false, ◌&&◌, ◌||◌}
+use native.Mathlib.Omega.{arith}
+use lib.ListN.{length, get_or}
+use lib.Dec.{leb, ltb}
 use borrow.Author.Tests.{lt-ltb}
+use Rattle.std.specs.List.{list_any}
+use Rattle.std.specs.Simd.{first_chunks}
+use Rattle.basics.specs.Choice.{pick}
 use Rattle.windows.specs.Windows.{inside, cover}
-use Rattle.windows.proofs.Ticks.{inside_yes, inside_early, inside_late}
 
--- the windows behind the first
-abbrev pub behind : List ℕ → List ℕ
-behind l = take (length l - 2) (drop 2 l)
+-- whether a window covers a tick
+abbrev pub holds : ℕ → List ℕ → Bool
+holds t w = leb (get_or w 0 0) t && ltb t (get_or w 1 0)
 
-module _ (t : ℕ) where
-  cover_pair : (l : List ℕ) → 2 ≤ length l → cover l t ≡ inside (get_or l 0 0) (get_or l 1 0) t + cover (behind l) t
-  unfolding cover
-  cover_pair [] h = absurd (omega arith)
-  cover_pair (s ∷ []) h = absurd (omega arith)
-  cover_pair (s ∷ (e ∷ r)) h = ap (λ (l : List ℕ). inside s e t + cover l t) (sym (take_all (length (s ∷ (e ∷ r)) - 2) r (omega arith)))
+-- a tick is covered by a first window or by those behind it
+one_more : (b : Bool) (x : ℕ) → (b || ltb 0 x) ≡ ltb 0 (pick b 1 0 + x)
+one_more true x = sym (lt-ltb 0 (1 + x) (omega arith))
+one_more false x = ap (ltb 0) (omega arith)
 
-  pub covered_here : (l : List ℕ) → 2 ≤ length l → get_or l 0 0 ≤ t → t < get_or l 1 0 → true ≡ ltb 0 (cover l t)
-  covered_here l h p q =
-      sym (lt-ltb 0 (cover l t) (omega (arith, cover_pair l h, inside_yes (get_or l 0 0) (get_or l 1 0) t p q)))
-
-  pub covered_later : (l : List ℕ) → 2 ≤ length l → t < get_or l 0 0 → ltb 0 (cover (behind l) t) ≡ ltb 0 (cover l t)
-  covered_later l h p = ap (ltb 0) (omega (arith, cover_pair l h, inside_early (get_or l 0 0) (get_or l 1 0) t p))
-
-  pub covered_behind : (l : List ℕ) → 2 ≤ length l → get_or l 1 0 ≤ t → ltb 0 (cover (behind l) t) ≡ ltb 0 (cover l t)
-  covered_behind l h p = ap (ltb 0) (omega (arith, cover_pair l h, inside_late (get_or l 0 0) (get_or l 1 0) t p))
-
-  pub covered_nowhere : (l : List ℕ) → length l < 2 → false ≡ ltb 0 (cover l t)
-  unfolding cover
-  covered_nowhere [] h = refl
-  covered_nowhere (s ∷ []) h = refl
-  covered_nowhere (s ∷ (e ∷ r)) h = absurd (omega arith)
+-- a curve covers a tick where one of its windows does
+pub covered_any : (t k : ℕ) (l : List ℕ) → k + k ≤ length l → length l < k + k + 2 → list_any (holds t) (first_chunks 2 k l) ≡ ltb 0 (cover l t)
+unfolding cover inside
+covered_any t zero [] h g = refl
+covered_any t zero (s ∷ []) h g = refl
+covered_any t zero (s ∷ (e ∷ r)) h g = absurd (omega arith)
+covered_any t (suc k) [] h g = absurd (omega arith)
+covered_any t (suc k) (s ∷ []) h g = absurd (omega arith)
+covered_any t (suc k) (s ∷ (e ∷ r)) h g =
+    ap (λ b. holds t (s ∷ (e ∷ [])) || b) (covered_any t k r (omega arith) (omega arith)) ∙ one_more (leb s t && ltb t e) (cover r t)

@@ -6,12 +6,8 @@ ghost use Rattle.windows.specs.Windows.{cover};
 pub fn covers(curve: &[u32], tick: u32) -> bool
     ensures { result ≡ ltb 0 (cover curve.now tick) }
 {
-    let mut ahead = curve;
-    while let [start, end, rest @ ..] = ahead {
-        if *start <= tick && tick < *end {
-            return true;
-        }
-        ahead = rest;
-    }
-    false
+    let (windows, _) = curve.as_chunks::<2>();
+    windows
+        .iter()
+        .any(|[start, end]| *start <= tick && tick < *end)
 }

@@ -14,7 +14,7 @@ hold-counts-requires c =
       server_period a.table p.0 a.i p.1,
       omega (arith, few.1),
       omega (arith, few.0, few.1),
-      plain_higher a.table.span 16000 _ span (rw c.wanted-m.ensures.front (wanted_plain a.table p.0 a.i)),
+      plain_higher a.table.span 16000 _ span (rw c.wanted-wanted.ensures.front (wanted_plain a.table p.0 a.i)),
       plain_higher a.table.span 16000 _ span p.2.curve,
       p.5,
       omega (arith, p.6),
@@ -24,11 +24,11 @@ pub returns-clause-held : goal.returns-clause-held
 returns-clause-held c =
     let a = c.args in
     let p = c.requires in
-    server_holds a.table p.0 a.i p.1 _ p.2.curve _ c.wanted-m.ensures.front c.hold-counts.ensures.taken
+    server_holds a.table p.0 a.i p.1 _ p.2.curve _ c.wanted-wanted.ensures.front c.hold-counts.ensures.taken
 
 pub returns-clause-left : goal.returns-clause-left
 returns-clause-left c =
     let a = c.args in
     let p = c.requires in
     let e = c.hold-counts.ensures in
-    copied _ (omega (arith, e.fits, p.2.room)) (omega arith) (server_leaves a.table p.0 a.i p.1 _ p.2.curve _ c.wanted-m.ensures.front e.left) c.copy_from_slice.ensures.after
+    copied _ (omega (arith, e.fits, p.2.room)) (omega arith) (server_leaves a.table p.0 a.i p.1 _ p.2.curve _ c.wanted-wanted.ensures.front e.left) c.copy_from_slice.ensures.after

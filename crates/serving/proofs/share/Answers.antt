@@ -6,12 +6,12 @@ use Rattle.serving.proofs.share.Goals as goal
 pub hold-counts-requires : goal.hold-counts-requires
 hold-counts-requires c =
     let p = c.requires in
-    let w = c.demand-m.ensures in
+    let w = c.demand-demanded.ensures in
     (omega arith, omega arith, omega arith, share_demand p.0 p.2 w p.3, share_supply p.0 p.2 w p.3, p.5, p.6)
 
 pub returns : goal.returns
 returns c =
     let p = c.requires in
-    let w = c.demand-m.ensures in
+    let w = c.demand-demanded.ensures in
     let e = c.hold-counts.ensures in
     (share_serves p.0 p.2 w p.3 e.taken, copied _ (omega (arith, e.fits, p.3.room)) refl (share_leaves p.0 p.2 w p.3 e.left) c.copy_from_slice.ensures.after)

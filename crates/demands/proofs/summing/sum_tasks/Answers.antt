@@ -7,8 +7,8 @@ use Rattle.demands.proofs.summing.sum_tasks.Goals as goal
 pub loop-task-init : goal.loop-task-init
 loop-task-init c = sum_none _ _ _
 
-pub add_task-n-requires : goal.add_task-n-requires
-add_task-n-requires c =
+pub add_task-count-requires : goal.add_task-count-requires
+add_task-count-requires c =
     let p = c.requires in
     let table = c.args.table in
     let h = c.loop-task-test.true in
@@ -29,7 +29,7 @@ loop-task-preserved c =
     let next : c.args.server ≡ suc (c.args.server - 1) = omega (arith, p.1) in
     elim c.if-task-server.branch [
       | then-task-server w ↦
-          rw (w.sum-is, w.n-is) (sum_own table _ _ p.0 _ c.loop-task.invariant _ next (rw same at w.if-task-server.true) (rw same at w.add_task-n.ensures))
+          rw (w.sum-is, w.count-is) (sum_own table _ _ p.0 _ c.loop-task.invariant _ next (rw same at w.if-task-server.true) (rw same at w.add_task-count.ensures))
       | else-task-server w ↦
-          rw (w.sum-is, w.n-is) (sum_other table _ _ p.0 _ c.loop-task.invariant _ next (rw same at w.if-task-server.false))
+          rw (w.sum-is, w.count-is) (sum_other table _ _ p.0 _ c.loop-task.invariant _ next (rw same at w.if-task-server.false))
     ]
