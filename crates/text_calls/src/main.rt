@@ -19,7 +19,7 @@
 #![tactic(auto)]
 
 use batch::output::Output;
-use batch::{answer_lines, put_bad};
+use batch::{answer_lines, copy_or_answer};
 use std::fmt;
 use text_buffers::{put_analysis, put_who};
 use text_lines::asking::{Request, read_line};
@@ -41,19 +41,13 @@ fn answer(request: Request, text: &[u8], out: &mut Output) -> fmt::Result {
     }
 }
 
-// Answers a line.
-fn answer_line(line: &[u8], out: &mut Output) -> fmt::Result {
-    if line.starts_with(b"#") {
-        out.put_bytes(line);
-        return Ok(());
-    }
-    match read_line(line) {
-        Some(asked) => answer(asked.request, &asked.text, out),
-        None => put_bad(out),
-    }
+// Answers a line; none where it has another form.
+fn answer_line(line: &[u8], out: &mut Output) -> Option<fmt::Result> {
+    let asked = read_line(line)?;
+    Some(answer(asked.request, &asked.text, out))
 }
 
 // Answers the lines of standard input.
 fn main() {
-    answer_lines(answer_line);
+    answer_lines(|line, out| copy_or_answer(line, out, answer_line));
 }
