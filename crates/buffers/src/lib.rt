@@ -7,6 +7,7 @@ ghost use Rattle.std.specs.Prelude.{◌≡◌, ◌≤◌, ◌<◌, length, take}
 ghost use Rattle.buffers.specs.Parts.{Curve, Drawn, with_window};
 
 // Puts a window behind the curve that a buffer's first `count` numbers are, joined to its last window if they touch.
+// Buffer and count, not one value of both: a buffer of `Work` outlives the curve at its front, whose count alone is handed on.
 pub fn put(out: &mut [u32], count: usize, start: u32, end: u32) -> usize
     requires { Curve out.old count start × (start < end) × (end ≤ 16000) }
     ensures { Drawn out.old out.new result (with_window (take count out.old) start end) }

@@ -14,11 +14,13 @@ use walks::adding::Sum;
 use walks::cutting::Cut;
 
 // Whether a curve is plain: an even length, each start below its end, each end below the next start, no end above LIMIT.
+// A fact and not a type: the calls are lent any numbers, and the specification speaks of the plain list.
 #[tactic(auto, using(crate::proofs::Fronts::fronts))]
 pub fn plain(curve: &[u32]) -> bool
     ensures { result ≡ is_plain curve.now }
 {
     let mut low: u32 = 0;
+    // By slice patterns, no longer than by `as_chunks`: what is left in the end tells an odd length.
     let mut ahead = curve;
     while let [start, end, behind @ ..] = ahead {
         if *start < low || end <= start || LIMIT < *end {

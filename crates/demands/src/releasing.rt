@@ -30,6 +30,7 @@ pub fn next_release(release: Release, last: u32) -> u32
 }
 
 // Writes the demand of a task below the end of a span to the front of a buffer.
+// Task and span apart: a value of both would be made anew for each task of a table, from the same facts.
 pub fn demand(task: Task, span: u32, out: &mut [u32]) -> usize
     requires { TaskObeyed task × (span ≤ 16000) × (16000 ≤ length out.old) }
     ensures { Wrote out.old out.new result (demand_of span task) }
@@ -41,6 +42,7 @@ pub fn demand(task: Task, span: u32, out: &mut [u32]) -> usize
     let mut end = start + task.work;
     let mut count: usize = 0;
     let mut release = next_release(task.release, start);
+    // By the next release: a task that is released once has no period that a `step_by` could take.
     while release < span {
         if end < release {
             count = put(out, count, start, end);

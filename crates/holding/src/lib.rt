@@ -11,6 +11,7 @@ use buffers::put;
 // under way ends at `until` and has `budget` left.
 #[derive(Clone, Copy)]
 struct Place {
+    // An index and not the windows ahead: the definitions of specs, as `Moved`, tell a place in the whole demand.
     demand: usize,
     wanted: u32,
     at: u32,
@@ -31,7 +32,7 @@ pub struct Counts {
     pub left: usize,
 }
 
-// The number at an index of a curve, or 0 behind its end.
+// The number at an index of a curve, or 0 behind its end, as `get_or` of specs has it.
 fn number_at(curve: &[u32], i: usize) -> u32
     ensures { result ≡ get_or curve.now i 0 }
 {
@@ -63,6 +64,7 @@ fn period_end(at: u32, until: u32, period: u32) -> u32
     at - at % period + period
 }
 
+// A period is a number with bounds, not a type: `hold` is called with a server's and with `ALL`, and two functions here ask for them.
 // The walk goes on at a free tick, with a new budget if a new period is under way.
 fn entered(place: Place, at: u32, capacity: u32, period: u32) -> Place
     requires { (0 < period) × (period ≤ 16000) × (at ≤ 16000) × (place.until % period ≡ 0) }

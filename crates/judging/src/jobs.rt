@@ -46,6 +46,7 @@ pub fn judge(task: Task, span: u32, running: &[u32]) -> Response
     let mut passed = Passed::default();
     let mut amount = task.work;
     let mut release = first_release(task.release);
+    // By the next release, as a demand is written: a task that is released once has no period to step by.
     while release < span {
         passed = pass_amount(running, passed, amount);
         let Some(start) = running.get(2 * passed.windows) else {

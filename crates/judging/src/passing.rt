@@ -4,6 +4,7 @@ ghost use Rattle.windows.specs.Windows.{is_plain, provide};
 ghost use Rattle.judging.specs.Passes.{Passes, reached_at, EndsBy, EndsAfter};
 
 // How far a curve has been passed: so many of its windows, which give so many ticks.
+// The curve goes beside it: a walk changes this alone, which starts as its default.
 #[derive(Clone, Copy, Default)]
 pub struct Passed {
     pub windows: usize,

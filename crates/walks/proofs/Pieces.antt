@@ -12,7 +12,7 @@ use Rattle.walks.specs.declared.Step.{Step}
 use Rattle.walks.specs.declared.cutting.Cut.{Cut}
 use Rattle.walks.specs.Steps.{CutSound, Next, pieces_ahead}
 use Rattle.windows.proofs.Turns.{plain_turn}
-use Rattle.walks.proofs.Fronts.{behind, Faces, faces}
+use Rattle.walks.proofs.Fronts.{behind, faces}
 
 -- a plain curve that is not empty has a window
 behind_inside : (l : List ℕ) → is_plain (behind l) ≡ true → 0 < length (behind l) → 0 < get_or (behind l) 1 0

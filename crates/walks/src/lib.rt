@@ -75,6 +75,7 @@ pub fn write<W: Walk>(walk: W, out: &mut [u32]) -> usize
 }
 
 // Writes a window at a place of a buffer, and answers the place behind it.
+// Buffer and place, not one value of both: C lends the buffer and is told the count.
 pub fn put(out: &mut [u32], place: usize, start: u32, end: u32) -> usize
     requires { place + 1 < length out.old }
     ensures { (result ≡ place + 2) × (out.new ≡ set (set out.old place start) (place + 1) end) }

@@ -1,4 +1,4 @@
-use Rattle.std.proofs.Common.{◌≡◌, sym, ◌∙◌, arith}
+use Rattle.std.proofs.Common.{sym, ◌∙◌}
 use Rattle.windows.specs.Windows.{end_of}
 use Rattle.walks.proofs.Buffers.{counted_pair, counted_all}
 use Rattle.walks.proofs.Sums.{ends_pair}

@@ -1,9 +1,9 @@
-use Rattle.std.proofs.Common.{◌≡◌, sym, ◌∙◌, length, ◌&&◌}
+use Rattle.std.proofs.Common.{sym, ◌∙◌, length}
 use borrow.Author.Tests.{leb-true}
 use lib.Dec.{leb}
 use Rattle.basics.proofs.Tests.{and_left, and_right}
 use Rattle.windows.specs.Windows.{end_of}
-use Rattle.walks.proofs.Buffers.{written_none, written_room, written_pair, written_all}
+use Rattle.walks.proofs.Buffers.{written_none, written_pair}
 use Rattle.walks.proofs.Sums.{ends_pair}
 use Rattle.walks.proofs.write.Goals as goal
 

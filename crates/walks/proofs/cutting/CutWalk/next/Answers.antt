@@ -1,5 +1,5 @@
 -- The first piece of what lies ahead, and the walk behind it.
-use Rattle.std.proofs.Common.{◌≡◌, refl, length, arith}
+use Rattle.std.proofs.Common.{refl, arith}
 use Rattle.windows.specs.Walks.{cut_from}
 use Rattle.walks.proofs.Fronts.{no_window}
 use Rattle.walks.proofs.Pieces.{piece_rises, piece_cut, piece_whole}
