@@ -30,7 +30,8 @@ fn entries_from<E: Row<W>, const W: usize, const N: usize>(rows: &[u32], n: usiz
     )
 }
 
-// The table of a span, two counts and two arrays of rows. A row whose kind is unknown makes an entry that breaks the rules.
+// The table of a span, two counts and two arrays of rows. A row whose kind is unknown makes an entry that breaks the rules:
+// the call for C on a table is total, and such a table is refused with 13 where it is used.
 pub fn table_from(
     span: u32,
     servers_n: usize,

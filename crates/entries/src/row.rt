@@ -18,7 +18,7 @@ pub trait Row<const W: usize>: Sized {
     fn row(&self) -> [u32; W]
         ensures { result ≡ row_of self.now };
 
-    // The entry that row i makes.
+    // The entry that row i makes. Its numbers are taken at their places in all rows, as the specification's `server_in` and `task_in` take them.
     fn entry(rows: &[u32], i: usize) -> Self
         requires { W * i + W ≤ length rows.now }
         ensures { result ≡ entry_in rows.now i };

@@ -1,4 +1,4 @@
-// From the numbers of the calls for C to a kind and a release.
+// From the numbers of the calls for C to a kind and a release: numbers that the types themselves need not know, as in giving.rt.
 ghost use Rattle.std.specs.Prelude.{◌≡◌};
 ghost use Rattle.entries.specs.Entries.{kind_from, release_from};
 

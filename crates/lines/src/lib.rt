@@ -13,7 +13,7 @@ use refusals::{Ground, required};
 use table::ranges::{in_ticks, within};
 use table::{Kind, Release, Server, Task};
 
-// What a right line says; a span of 0 is the one that all periods give.
+// What a right line says. A span of 0 is the one that all periods give: 01's tables have no span 0, and the specification's `span_line` says 0 for `-`.
 #[derive(Clone, Copy)]
 pub enum Line {
     SpanIs(u32),
@@ -21,7 +21,8 @@ pub enum Line {
     TaskIs(Task),
 }
 
-// What is wrong with a line, and at which place of it, the first word being 1; 0 where it is the line as a whole.
+// What is wrong with a line, and at which place of it, the first word being 1; 0 where it is the line as a whole, as
+// 01, C and the report hand it out.
 #[derive(Clone, Copy)]
 pub struct Wrong {
     pub ground: Ground,
@@ -90,7 +91,7 @@ fn span_line(line: &[u8]) -> Result<Line, Wrong>
     Ok(Line::SpanIs(ticks))
 }
 
-// A server's kind.
+// A server's kind; tests in a row, as in `fields::values::word`.
 fn kind(field: &[u8]) -> Result<Kind, Ground>
     ensures { result ≡ kind_of field.now }
 {

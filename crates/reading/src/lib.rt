@@ -12,7 +12,7 @@ use refusals::{Ground, Refusal, refused_at, required};
 use table::multiples::common_span;
 use table::{Server, Table, Task};
 
-// A table before its first line.
+// A table before its first line. 01's tables have no span 0, so 0 says that none is known yet.
 fn no_table() -> Table
     ensures { result ≡ no_table }
 {

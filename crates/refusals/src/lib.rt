@@ -30,7 +30,7 @@ pub enum Ground {
 }
 
 // The number of what is wrong, in which line from 1 on and at which place of it, the first word being 1; 0 where there is none. All are 0 where
-// nothing is refused.
+// nothing is refused: 01, C and the report hand the three numbers out as they are.
 #[derive(Clone, Copy, PartialEq, Eq)]
 pub struct Refusal {
     pub number: u32,
@@ -38,7 +38,7 @@ pub struct Refusal {
     pub place: u32,
 }
 
-// The number that 01 and 02 give what is wrong.
+// The number that 01 and 02 give what is wrong. It is no `From`, since the docs name it.
 pub fn number_of(ground: Ground) -> u32
     ensures { result ≡ number_of ground }
 {
@@ -94,7 +94,7 @@ pub fn required<E: Copy>(holds: bool, error: E) -> Result<(), E>
     if holds { Ok(()) } else { Err(error) }
 }
 
-// Where nothing is refused.
+// Where nothing is refused: C gets zeros.
 pub fn no_refusal() -> Refusal
     ensures { result ≡ no_refusal }
 {

@@ -49,10 +49,10 @@ joins_large m p r l h = record {
 
 pub joins_up_to : (m p r : ℕ) → IsLcm m p r → JoinsAll (Some m) (p ∷ []) (then_some (leb r 16000) r)
 joins_up_to m p r l = go (leb r 16000) refl
-    where
-      go : (small : Bool) → leb r 16000 ≡ small → JoinsAll (Some m) (p ∷ []) (then_some small r)
-      go true e = joins_lcm m p r l (leb-true r 16000 e)
-      go false e = joins_large m p r l (leb-false r 16000 e)
+  where
+    go : (small : Bool) → leb r 16000 ≡ small → JoinsAll (Some m) (p ∷ []) (then_some small r)
+    go true e = joins_lcm m p r l (leb-true r 16000 e)
+    go false e = joins_large m p r l (leb-false r 16000 e)
 
 -- what a number of 1 to 16,000 divides by is one of them
 divisor_in_ticks : (p n : ℕ) → 0 < n → n ≤ 16000 → p ∣ n → in_ticks p ≡ true

@@ -29,7 +29,7 @@ fn task_obeys(servers: usize, task: Task) -> bool
         && in_ticks(task.deadline)
 }
 
-// Whether all servers of a table obey the rules.
+// Whether all servers of a table obey the rules. This and the next stay two functions: each states the one walk that it makes.
 pub fn servers_obey(table: Table) -> bool
     requires { table.servers_n ≤ 16 }
     ensures { result ≡ all server_obeys (servers_of table) }
