@@ -1,11 +1,8 @@
 -- How many bytes a report has at most, line by line, where its numbers are within their bounds. Assumes nothing.
 use Prim.Native.Nat.{ℕ, zero, suc, ◌+◌, ◌*◌, ◌≤◌, ◌<◌}
-use mathlib.Core.List.{List, ◌++◌}
-use mathlib.Core.Bool.{Bool, true, false}
+use mathlib.Core.List.{List}
 use native.Mathlib.Omega.{arith}
 use lib.ListN.{length, get_or, length-append}
-use lib.Dec.{eqb}
-use Rattle.basics.specs.Choice.{pick}
 use Rattle.refusals.specs.Refusals.{last_number, last_place}
 use Rattle.refusals.specs.declared.Refusal.{Refusal}
 use Rattle.answers.specs.Answers.{no_server_answer, no_task_answer}

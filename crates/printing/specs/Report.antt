@@ -1,6 +1,5 @@
 -- Document 01, 'What the report program prints': "Fields are parted by tabs, each line ends with a line feed."
-use Rattle.std.specs.Prelude.{ℕ, zero, suc, List, [], ◌∷◌, ◌++◌, Option, Some, None, get_or, eqb, Result, Ok, Err}
-use Rattle.basics.specs.Choice.{pick}
+use Rattle.std.specs.Prelude.{ℕ, zero, suc, List, [], ◌∷◌, ◌++◌, Option, Some, None, get_or, Result, Ok, Err}
 use Rattle.fields.specs.Fields.{span_word, server_word, dash}
 use Rattle.putting.specs.Decimal.{field, signed, feed}
 use Rattle.refusals.specs.declared.Refusal.{Refusal}
