@@ -18,7 +18,8 @@ pub fn first_release(release: Release) -> u32
     }
 }
 
-// The release after one, or 16,000 and more where none follows below the end of a span.
+// The release after one, or 16,000 and more where none follows below the end of a span: no `Option`, since who asks has to look for the
+// span's end all the same.
 pub fn next_release(release: Release, last: u32) -> u32
     requires { (release_obeys release ≡ true) × (last ≤ 16000) }
     ensures { result ≡ next_release release last }

@@ -5,7 +5,7 @@ use std::fmt;
 use std::fmt::Write;
 use table::{Kind, Release, Server, Table, Task};
 
-// Puts a server.
+// Puts a server. The kinds' words stand here once more, since what a test prints is told apart from what the library writes.
 fn put_server(out: &mut Output, server: Server) -> fmt::Result {
     let kind = match server.kind {
         Kind::Deferrable => "deferrable",
