@@ -1,6 +1,9 @@
 -- The windows that are ahead of a walk along a curve: those from an index on. Assumes nothing.
-use Rattle.std.proofs.Common.{ℕ, ◌≡◌, ◌+◌, ◌-◌, ◌≤◌, ◌<◌, List, length, get_or, take, drop, refl, sym, ap, ◌∙◌, max, arith, length-drop}
-use Rattle.std.proofs.lemmas.List.{take_all, get_or-drop, drop-drop}
+use Rattle.std.proofs.Common.{ℕ, Bool, true, false, leb, ◌≡◌, ◌+◌, ◌-◌, ◌≤◌, ◌<◌, List, length, get_or, drop, refl, sym, ap, ◌∙◌, max, arith, length-drop}
+use Rattle.std.proofs.lemmas.List.{get_or-drop, drop-drop}
+use Rattle.std.proofs.lemmas.Bool.Decides.{leb_tells}
+use mathlib.Core.Logic.{◌⊎◌, inl, inr}
+use Rattle.basics.specs.Choice.{pick}
 use native.Mathlib.Decide.{dec_lt}
 use Rattle.holding.specs.declared.Place.{Place}
 use Rattle.holding.specs.Pieces.{Entered}
@@ -31,28 +34,27 @@ module _ {free ahead : List ℕ} (w : Ahead free ahead) where
     pub ahead_end : get_or ahead 1 0 ≡ get_or free (index_of free ahead + 1) 0
     ahead_end = ap (λ (l : List ℕ). get_or l 1 0) w.rest ∙ get_or-drop (index_of free ahead) free 1 0
 
-    abbrev next : List ℕ
-    next = take (length ahead - 2) (drop 2 ahead)
+    -- behind a piece that ends at an instant: the window is used up, or it is not
+    pub ahead_behind : (stop : ℕ) → {next : List ℕ} → next ≡ pick (leb (get_or ahead 1 0) stop) (drop 2 ahead) ahead
+        → Ahead free next × Behind free (index_of free ahead) stop (index_of free next)
+    ahead_behind stop {next} e = go (leb_tells (get_or ahead 1 0) stop)
+      where
+        index : index_of free (drop 2 ahead) ≡ index_of free ahead + 2
+        index = omega (arith, length-drop 2 ahead, w.short)
 
-    next_is : next ≡ drop 2 ahead
-    next_is = take_all (length ahead - 2) (drop 2 ahead) (omega (arith, length-drop 2 ahead))
+        passed : Ahead free (drop 2 ahead)
+        passed = record {
+          short = omega (arith, length-drop 2 ahead, w.short);
+          rest = ap (drop 2) w.rest ∙ drop-drop 2 (index_of free ahead) free ∙ ap (λ (n : ℕ). drop n free) (sym index);
+        }
 
-    next_length : length next ≡ length ahead - 2
-    next_length = ap length next_is ∙ length-drop 2 ahead
+        next_is : {b : Bool} → leb (get_or ahead 1 0) stop ≡ b → next ≡ pick b (drop 2 ahead) ahead
+        next_is h = e ∙ ap (λ (b : Bool). pick b (drop 2 ahead) ahead) h
 
-    next_index : index_of free next ≡ index_of free ahead + 2
-    next_index = omega (arith, next_length, w.short)
-
-    -- the window is used up
-    pub ahead_next : (stop : ℕ) → get_or ahead 1 0 ≤ stop → Ahead free next × Behind free (index_of free ahead) stop (index_of free next)
-    ahead_next stop h = (
-      record { short = omega (arith, next_length, w.short); rest = next_is ∙ ap (drop 2) w.rest ∙ drop-drop 2 (index_of free ahead) free ∙ ap (λ (n : ℕ). drop n free) (sym next_index) },
-      record { used = λ q. next_index; kept = λ q. absurd (omega (arith, ahead_end)) },
-    )
-
-    -- it is not
-    pub ahead_same : (stop : ℕ) → stop < get_or ahead 1 0 → Behind free (index_of free ahead) stop (index_of free ahead)
-    ahead_same stop h = record { used = λ q. absurd (omega (arith, ahead_end)); kept = λ q. refl }
+        go : ((leb (get_or ahead 1 0) stop ≡ true) × (get_or ahead 1 0 ≤ stop)) ⊎ ((leb (get_or ahead 1 0) stop ≡ false) × (stop < get_or ahead 1 0))
+            → Ahead free next × Behind free (index_of free ahead) stop (index_of free next)
+        go (inl h) = rw (next_is h.0) (passed, record { used = λ q. index; kept = λ q. absurd (omega (arith, h.1, ahead_end)) })
+        go (inr h) = rw (next_is h.0) (w, record { used = λ q. absurd (omega (arith, h.1, ahead_end)); kept = λ q. refl })
 
 -- ---- the walk over a server's free ticks, with what is ahead of it
 

@@ -1,7 +1,8 @@
 // The held ticks of a server: a demand fitted into free ticks, at most a capacity in each period.
 #![tactic(auto)]
 
-ghost use Rattle.std.specs.Prelude.{◌≡◌, ◌+◌, ◌-◌, ◌%◌, ◌≤◌, ◌<◌, length, get_or};
+ghost use Rattle.std.specs.Prelude.{◌≡◌, ◌+◌, ◌-◌, ◌%◌, ◌≤◌, ◌<◌, length, get_or, leb, drop};
+ghost use Rattle.basics.specs.Choice.{pick};
 ghost use Rattle.buffers.specs.Parts.{PlainBelow, Drawn};
 ghost use Rattle.holding.specs.Pieces.{held_from, left_from, first_place, Entered, Offered, Holds, Cuts, Served};
 
@@ -128,6 +129,18 @@ fn served(place: Place, demand: &[u32], stop: u32) -> Place
     }
 }
 
+// The windows ahead, without the first where it ends by an instant.
+fn unpassed(ahead: &[u32], instant: u32) -> &[u32]
+    requires { 2 ≤ length ahead.now }
+    ensures { result.now ≡ pick (leb (get_or ahead.now 1 0) instant) (drop 2 ahead.now) ahead.now }
+{
+    if ahead[1] <= instant {
+        &ahead[2..]
+    } else {
+        ahead
+    }
+}
+
 // Writes the ticks of a free curve that a demand takes, at most `capacity` in each period, and those that are left.
 pub fn hold(
     capacity: u32,
@@ -146,7 +159,7 @@ pub fn hold(
     let mut place = start(demand);
     let mut counts = Counts { taken: 0, left: 0 };
     let mut ahead = free;
-    while let [start, end, rest @ ..] = ahead {
+    while let [start, end, ..] = ahead {
         let at = place.at.max(*start);
         let here = entered(place, at, capacity, period);
         match next_piece(here, demand, *end) {
@@ -159,9 +172,7 @@ pub fn hold(
                 place = Place { at: stop, ..here };
             }
         }
-        if *end <= place.at {
-            ahead = rest;
-        }
+        ahead = unpassed(ahead, place.at);
     }
     counts
 }

@@ -1,7 +1,7 @@
 use Rattle.std.proofs.Common.{arith}
 use Rattle.holding.proofs.HoldTurns.{given_by, stands_first, turn_offered}
 use Rattle.holding.proofs.HoldDraws.{draws_none, draws_room, turn_held, turn_left_over, turn_less, draws_all, drawn_few}
-use Rattle.holding.proofs.Ahead.{ahead_all, ahead_end, ahead_next, ahead_same, turn_ahead, at_most, none_ahead, starts_all}
+use Rattle.holding.proofs.Ahead.{ahead_all, ahead_end, ahead_behind, turn_ahead, at_most, none_ahead, starts_all}
 use Rattle.holding.proofs.hold.Goals.{in-Held, in-Left}
 use Rattle.holding.proofs.hold.Goals as goal
 
@@ -37,16 +37,6 @@ put-requires-in-Left c =
     let end = ahead_end v.ahead c.in-len2-up.len_at_least in
     draws_room turn c.entered-here.ensures.there cut.0 (rw end at cut.1) v.draws.in_left c.requires.6
 
-pub loop-ahead-smaller-then-end-place : goal.loop-ahead-smaller-then-end-place
-loop-ahead-smaller-then-end-place c =
-    let v = c.loop-ahead.invariant in
-    let turn = turn_ahead (given_by c.requires.0 c.requires.3 c.requires.4) c.loop-ahead.invariant.ahead c.loop-ahead.invariant.stands c.in-len2-up.len_at_least c.max-at.ensures c.entered-here.ensures in
-    let end = ahead_end v.ahead c.in-len2-up.len_at_least in
-    elim c.match-next_piece.branch [
-      | in-Held x ↦ rw (x.place-is, x.served-place.ensures.there) (turn_less turn x.in-Held.ensures.0 (rw end at x.in-Held.ensures.1))
-      | in-Left x ↦ rw x.place-is (turn_less turn x.in-Left.ensures.0 (rw end at x.in-Left.ensures.1))
-    ]
-
 pub loop-ahead-smaller : goal.loop-ahead-smaller
 loop-ahead-smaller c =
     let v = c.loop-ahead.invariant in
@@ -57,14 +47,14 @@ loop-ahead-smaller c =
       | in-Left x ↦ rw x.place-is (turn_less turn x.in-Left.ensures.0 (rw end at x.in-Left.ensures.1))
     ]
 
-pub loop-ahead-preserved-then-end-place : goal.loop-ahead-preserved-then-end-place
-loop-ahead-preserved-then-end-place c =
+pub loop-ahead-preserved : goal.loop-ahead-preserved
+loop-ahead-preserved c =
     let v = c.loop-ahead.invariant in
     let pair = c.in-len2-up.len_at_least in
     let turn = turn_ahead (given_by c.requires.0 c.requires.3 c.requires.4) c.loop-ahead.invariant.ahead c.loop-ahead.invariant.stands c.in-len2-up.len_at_least c.max-at.ensures c.entered-here.ensures in
     let there = c.entered-here.ensures.there in
     let end = ahead_end v.ahead pair in
-    let next = ahead_next v.ahead pair _ c.if-end-place.true in
+    let next = ahead_behind v.ahead pair _ c.unpassed-ahead.ensures in
     let behind = next.1 in
     elim c.match-next_piece.branch [
       | in-Held x ↦
@@ -75,25 +65,6 @@ loop-ahead-preserved-then-end-place c =
           let cut = x.in-Left.ensures in
           let t = turn_left_over turn there v.draws cut.0 (rw end at cut.1) cut.2 x.put-in-Left.ensures (rw x.place-is at behind) in
           rw (x.held-is, x.left-is, x.place-is, x.counts-is) (record { ahead = next.0; stands = t.0; draws = t.1 })
-    ]
-
-pub loop-ahead-preserved : goal.loop-ahead-preserved
-loop-ahead-preserved c =
-    let v = c.loop-ahead.invariant in
-    let pair = c.in-len2-up.len_at_least in
-    let turn = turn_ahead (given_by c.requires.0 c.requires.3 c.requires.4) c.loop-ahead.invariant.ahead c.loop-ahead.invariant.stands c.in-len2-up.len_at_least c.max-at.ensures c.entered-here.ensures in
-    let there = c.entered-here.ensures.there in
-    let end = ahead_end v.ahead pair in
-    let behind = ahead_same v.ahead pair _ c.if-end-place.false in
-    elim c.match-next_piece.branch [
-      | in-Held x ↦
-          let cut = x.in-Held.ensures in
-          let t = turn_held turn there v.draws (rw end at cut.1) cut.2 x.put.ensures x.served-place.ensures (rw x.place-is at behind) in
-          rw (x.held-is, x.left-is, x.place-is, x.counts-is) (record { ahead = v.ahead; stands = t.0; draws = t.1 })
-      | in-Left x ↦
-          let cut = x.in-Left.ensures in
-          let t = turn_left_over turn there v.draws cut.0 (rw end at cut.1) cut.2 x.put-in-Left.ensures (rw x.place-is at behind) in
-          rw (x.held-is, x.left-is, x.place-is, x.counts-is) (record { ahead = v.ahead; stands = t.0; draws = t.1 })
     ]
 
 pub returns-clause-taken : goal.returns-clause-taken
