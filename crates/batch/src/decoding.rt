@@ -1,7 +1,6 @@
 // From hexadecimal digits to the bytes that they stand for.
 ghost use Rattle.std.specs.Prelude.{◌<◌, IfSome};
-
-use arrayvec::ArrayVec;
+ghost use Rattle.io.specs.Counts.{IsPrefixLen};
 
 // The value of a lowercase digit.
 fn digit(byte: u8) -> Option<u8>
@@ -14,15 +13,21 @@ fn digit(byte: u8) -> Option<u8>
     }
 }
 
-// The bytes that digits stand for, two digits each, up to the line's end; none where there is another byte, or no room.
-pub fn decode<const ROOM: usize>(digits: &[u8]) -> Option<ArrayVec<u8, ROOM>> {
-    let mut bytes = ArrayVec::new();
+// Puts the bytes that digits stand for, two digits each, up to the line's end, to the front of an array; none where there is another byte, or no room.
+pub fn decode(digits: &[u8], bytes: &mut [u8]) -> Option<usize>
+    ensures { IfSome result (λ count. IsPrefixLen count bytes.new) }
+{
     let digits = digits.strip_suffix(b"\n").unwrap_or(digits);
     if digits.len() % 2 != 0 {
         return None;
     }
-    for pair in digits.chunks_exact(2) {
-        bytes.try_push(digit(pair[0])? * 16 + digit(pair[1])?).ok()?;
+    let count = digits.len() / 2;
+    for (byte, pair) in bytes
+        .get_mut(..count)?
+        .iter_mut()
+        .zip(digits.chunks_exact(2))
+    {
+        *byte = digit(pair[0])? * 16 + digit(pair[1])?;
     }
-    Some(bytes)
+    Some(count)
 }

@@ -1,10 +1,8 @@
 // Reading a line's fields, one after the other: decimal numbers that are parted by single spaces.
-ghost use Rattle.std.specs.Prelude.{◌≡◌, ◌≢◌, ◌≤◌, ◌↔◌, ℕ, List, ◌∷◌, [], IfSome, Some, None, take, drop, length, get_or};
+ghost use Rattle.std.specs.Prelude.{◌≡◌, ◌≢◌, ◌≤◌, ◌<◌, ◌↔◌, ℕ, true, List, ◌∷◌, [], IfSome, Some, None, take, drop, length, get_or};
 ghost use Rattle.std.specs.Char.{is_ascii_digit};
 ghost use Rattle.std.specs.List.{prefix_len};
 ghost use Rattle.std.specs.Str.Parse.{digits_value};
-
-use std::str;
 
 // How many of the first bytes are digits.
 fn digits_first(text: &[u8]) -> usize
@@ -12,6 +10,24 @@ fn digits_first(text: &[u8]) -> usize
     ensures within { result ≤ length text.now }
 {
     text.iter().take_while(|byte| byte.is_ascii_digit()).count()
+}
+
+// The number that digits make, if there are any and it has 32 bits. `str::parse` needs the digits as UTF-8 first, and takes half as long again.
+#[tactic(auto, using(crate::proofs::Digits::next_value))]
+fn value(digits: &[u8]) -> Option<u32>
+    requires { (i : ℕ) → i < length digits.now → is_ascii_digit (get_or digits.now i 0) ≡ true }
+    ensures { IfSome result (λ number. number ≡ digits_value 10 digits.now) }
+{
+    if digits.is_empty() {
+        return None;
+    }
+    let mut value: u32 = 0;
+    for digit in digits {
+        value = value
+            .checked_mul(10)?
+            .checked_add(u32::from(*digit - b'0'))?;
+    }
+    Some(value)
 }
 
 // What is not yet read of a line.
@@ -29,13 +45,14 @@ impl<'a> Fields<'a> {
     }
 
     // Reads the number whose digits come next, if it has 32 bits.
+    #[tactic(auto, using(crate::proofs::Digits::first_digits))]
     pub fn number(&mut self) -> Option<u32>
         ensures behind { self.new.rest.now ≡ drop (prefix_len is_ascii_digit self.old.rest.now) self.old.rest.now }
         ensures read { IfSome result (λ number. number ≡ digits_value 10 (take (prefix_len is_ascii_digit self.old.rest.now) self.old.rest.now)) }
     {
         let (digits, rest) = self.rest.split_at(digits_first(self.rest));
         self.rest = rest;
-        str::from_utf8(digits).ok()?.parse().ok()
+        value(digits)
     }
 
     // Reads the space that comes next.
@@ -59,7 +76,10 @@ impl<'a> Fields<'a> {
 
     // Reads a space and the number behind it, if it is not above a limit.
     pub fn number_up_to(&mut self, most: u32) -> Option<u32>
-        ensures { IfSome result (λ number. number ≤ most) }
+        ensures most { IfSome result (λ number. number ≤ most) }
+        ensures parted { IfSome result (λ number. get_or self.old.rest.now 0 0 ≡ 32) }
+        ensures behind { (rest : List ℕ) → self.old.rest.now ≡ 32 ∷ rest → self.new.rest.now ≡ drop (prefix_len is_ascii_digit rest) rest }
+        ensures read { (rest : List ℕ) → self.old.rest.now ≡ 32 ∷ rest → IfSome result (λ number. number ≡ digits_value 10 (take (prefix_len is_ascii_digit rest) rest)) }
     {
         self.next_number().filter(|number| *number <= most)
     }

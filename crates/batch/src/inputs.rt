@@ -7,7 +7,7 @@ use crate::steps::{cut_long, end_last, fill, keep_rest, whole_lines};
 use std::fmt;
 
 // How many bytes of standard input are held at once: of a line of more, its line feed counted, nothing can be read.
-const INPUT: usize = 1_048_576;
+pub const INPUT: usize = 1_048_576;
 
 // What is held of standard input: so many bytes, of which so many, from the first, are whole lines; and whether no more come.
 #[derive(Drop)]

@@ -7,15 +7,15 @@ mod inputs;
 pub mod output;
 mod steps;
 
-pub use inputs::answer_lines;
+pub use inputs::{INPUT, answer_lines};
 use output::Output;
 use std::fmt;
 use std::fmt::Write;
 
 // The numbers under which a program reads its standard input and writes its standard output: the kit's `io` takes them so.
-const STANDARD_INPUT: i32 = 0;
+pub const STANDARD_INPUT: i32 = 0;
 
-const STANDARD_OUTPUT: i32 = 1;
+pub const STANDARD_OUTPUT: i32 = 1;
 
 // More bytes than a table's text may have: of a longer input, no more has to be read.
 pub const TEXT: usize = 5000;

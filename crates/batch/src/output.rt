@@ -40,17 +40,22 @@ impl Output {
         self.waiting.push(byte);
     }
 
-    // Puts bytes as they are.
+    // Puts bytes as they are: all at once where there is room for them, as they would wait one by one.
     pub fn put_bytes(&mut self, bytes: &[u8]) {
-        for byte in bytes {
-            self.put_byte(*byte);
+        if self.waiting.try_extend_from_slice(bytes).is_err() {
+            for byte in bytes {
+                self.put_byte(*byte);
+            }
         }
     }
 }
 
 impl fmt::Write for Output {
+    // Byte by byte, since what `write!` puts is short.
     fn write_str(&mut self, text: &str) -> fmt::Result {
-        self.put_bytes(text.as_bytes());
+        for byte in text.as_bytes() {
+            self.put_byte(*byte);
+        }
         Ok(())
     }
 }

@@ -4,7 +4,7 @@
 pub mod work;
 
 ghost use Rattle.std.specs.Prelude.{◌≡◌, ◌≤◌, ◌<◌, length, take};
-ghost use Rattle.buffers.specs.Parts.{Curve, Drawn, with_window};
+ghost use Rattle.buffers.specs.Parts.{Curve, Drawn, Wrote, with_window};
 
 // Puts a window behind the curve that a buffer's first `count` numbers are, joined to its last window if they touch.
 // Buffer and count, not one value of both: a buffer of `Work` outlives the curve at its front, whose count alone is handed on.
@@ -19,4 +19,14 @@ pub fn put(out: &mut [u32], count: usize, start: u32, end: u32) -> usize
     out[count] = start;
     out[count + 1] = end;
     count + 2
+}
+
+// Copies a curve to the front of a buffer. A loop, since `copy_from_slice` asks whoever links the archive for `memmove`.
+pub fn copy(curve: &[u32], out: &mut [u32])
+    requires { length curve.now ≤ length out.old }
+    ensures { Wrote out.old out.new (length curve.now) curve.now }
+{
+    for i in 0..curve.len() {
+        out[i] = curve[i];
+    }
 }

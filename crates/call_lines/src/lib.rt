@@ -8,10 +8,10 @@ use std::fmt::Write;
 use std::{array, fmt};
 
 // The most bytes that are lent.
-const LENT: usize = 4096;
+pub const LENT: usize = 4096;
 
 // How many bytes the array has whose front is lent: a guard of 8 behind the largest lent part.
-const GUARDED: usize = 4104;
+pub const GUARDED: usize = 4104;
 
 // How many bytes behind the lent part are shown.
 const GUARD: usize = 8;

@@ -3,7 +3,7 @@ use arrayvec::ArrayVec;
 use batch::fields::Fields;
 
 // The most numbers that a curve or a lent buffer may have.
-const MOST: usize = 4096;
+pub const MOST: usize = 4096;
 
 // The numbers of a curve or of a lent buffer.
 pub type Numbers = ArrayVec<u32, MOST>;

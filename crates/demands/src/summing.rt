@@ -8,6 +8,7 @@ ghost use Rattle.buffers.specs.Parts.{PlainBelow, Curve, Wrote};
 ghost use Rattle.demands.specs.Walks.{TaskObeyed, StartsBelow};
 
 use crate::releasing::demand;
+use buffers::copy;
 use table::{Table, Task};
 use walks::adding::Sum;
 
@@ -46,7 +47,7 @@ fn add_task(
 {
     let demanded = demand(task, span, part);
     let added = add_below(&sum[..summed], &part[..demanded], span, spare);
-    sum[..added].copy_from_slice(&spare[..added]);
+    copy(&spare[..added], sum);
     added
 }
 

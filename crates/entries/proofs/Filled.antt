@@ -1,14 +1,17 @@
--- What is listed, by its places. Assumes nothing.
-use Prim.Native.Nat.{ℕ, zero, suc, ◌+◌, ◌≤◌, ◌<◌}
+-- An array of entries that is filled place by place. Assumes nothing.
+use Prim.Native.Nat.{ℕ, zero, suc, ◌+◌, ◌<◌, min}
 use mathlib.Core.Path.{◌≡◌, refl, sym, ap, ◌∙◌}
 use mathlib.Core.List.{List}
 use native.Mathlib.Omega.{arith}
 use native.Mathlib.Decide.{dec_lt}
-use denote.Param.Members.{Mut, Called}
-use Rattle.std.specs.Array.{IsFromFnResult, IsFromFnResultFrom}
-use lib.ListN.{length, get_or}
-use lib.Seq.{ext_get_or}
+use lib.ListN.{length, get_or, set, replicate, length-set, length-replicate, get_or-replicate}
+use lib.Seq.{get_or-set_same, get_or-set_other, ext_get_or}
+use lib.Dec.{ltb}
+use borrow.Author.Tests.{lt-ltb, le-ltb}
+use Rattle.basics.specs.Choice.{pick}
 use Rattle.entries.specs.Entries.{listed}
+
+-- ---- what is listed, by its places
 
 module _ {A : Type 0} (f : ℕ → A) where
   pub listed_length : (k i : ℕ) → length (listed f k i) ≡ k
@@ -30,19 +33,40 @@ module _ {A : Type 0} (f : ℕ → A) where
   listed_by d room l long each =
       ext_get_or d l (listed f room 0) (long ∙ sym (listed_length room 0)) (λ i h. each i (omega (arith, long)) ∙ sym (listed_at d room i (omega (arith, long))))
 
--- ---- an array that the library makes by calls of a closure that stays as it is
+-- ---- a walk along the places
 
-module _ {F B : Type 0} (g : Mut F (ℕ × Unit {0}) B) (f : F) (h : ℕ → B) (turn : (i : ℕ) (y : B) (q : F) → Called g f (i, tt) y q → (q ≡ f) × (y ≡ h i)) where
-  made_from : (ys : List B) (n i : ℕ) → IsFromFnResultFrom g f ys i n → (k : ℕ) (d : B) → i ≤ k → k < i + n → get_or ys k d ≡ h k
-  made_from ys zero i w k d low high = absurd (omega arith)
-  made_from ys (suc n) i w k d low high =
-      let t : (w.0 ≡ f) × (w.1 ≡ h i) = turn i w.1 w.0 w.3 in
-      let rest : IsFromFnResultFrom g f ys (i + 1) n = rw t.0 at w.4 in
-      go (dec_lt i k) (λ l. made_from ys n (i + 1) rest k d (omega arith) (omega arith)) (w.2.1 d ∙ t.1)
+module _ {A : Type 0} (g : ℕ → A) (d : A) where
+  -- what stands at a place if n are counted
+  abbrev pub counted : ℕ → ℕ → A
+  counted n k = pick (ltb k n) (g k) d
+
+  -- the places below i are filled, and the others empty
+  pub record Filled (room i : ℕ) (l : List A) : Type 0 where
+    pub long : length l ≡ room
+    pub each : (k : ℕ) → k < room → get_or l k d ≡ counted i k
+
+  pub filled_none : (room : ℕ) (a : A) → a ≡ d → Filled room 0 (replicate room a)
+  filled_none room a e = record {
+    long = length-replicate room a;
+    each = λ k h. get_or-replicate room k a d h ∙ e ∙ rw (le-ltb k 0 (omega arith));
+  }
+
+  pub filled_next : (room i : ℕ) (l : List A) (a : A) → i < room → a ≡ g i → Filled room i l → Filled room (i + 1) (set l i a)
+  filled_next room i l a h e w = record { long = length-set l i a ∙ w.long; each = λ k q. at k q (dec_lt k i) (dec_lt i k) }
     where
-      go : Dec (i < k) → (i < k → get_or ys k d ≡ h k) → get_or ys i d ≡ h i → get_or ys k d ≡ h k
-      go (yes l) later here = later l
-      go (no l) later here = let e : k ≡ i = omega arith in rw e here
+      at : (k : ℕ) → k < room → Dec (k < i) → Dec (i < k) → get_or (set l i a) k d ≡ counted (i + 1) k
+      at k q (yes b) _ = get_or-set_other l i k a d (λ s. omega arith) ∙ w.each k q ∙ rw (lt-ltb k (i + 1) (omega arith), lt-ltb k i b)
+      at k q (no b) (yes c) =
+          get_or-set_other l i k a d (λ s. omega arith) ∙ w.each k q ∙ rw (le-ltb k (i + 1) (omega arith), le-ltb k i (omega arith))
+      at k q (no b) (no c) =
+          let s : k ≡ i = omega arith in
+          rw (lt-ltb k (i + 1) (omega arith), s) (get_or-set_same l i a d (omega (arith, w.long)) ∙ e)
 
-  pub made_is : (d : B) (room : ℕ) (ys : List B) → IsFromFnResult g f ys room → ys ≡ listed h room 0
-  made_is d room ys w = listed_by h d room ys w.long (λ i b. made_from ys room 0 w.each i d (omega arith) (omega arith))
+  -- all that are counted are filled, as far as there are places
+  pub filled_all : (room i n : ℕ) (l : List A) → i ≡ min n room → Filled room i l → l ≡ listed (counted n) room 0
+  filled_all room i n l e w =
+      ext_get_or d l (listed (counted n) room 0) (w.long ∙ sym (listed_length (counted n) room 0)) (λ k h. at k (omega (arith, w.long)) (dec_lt k n))
+    where
+      at : (k : ℕ) → k < room → Dec (k < n) → get_or l k d ≡ get_or (listed (counted n) room 0) k d
+      at k h (yes b) = w.each k h ∙ rw (lt-ltb k i (omega arith)) (sym (listed_at (counted n) d room k h ∙ rw (lt-ltb k n b)))
+      at k h (no b) = w.each k h ∙ rw (le-ltb k i (omega arith)) (sym (listed_at (counted n) d room k h ∙ rw (le-ltb k n (omega arith))))

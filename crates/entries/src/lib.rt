@@ -14,20 +14,18 @@ ghost use Rattle.entries.specs.Entries.{rows, listed, server_row, task_row, tabl
 
 use placing::put_row;
 use row::Row;
-use std::array;
 use table::Table;
 
-// So many entries of an array of rows, in an array of N places: rows beyond the count are not looked at.
+// So many entries of an array of rows, in an array of N places: rows beyond the count are not looked at, and no turn is made for them.
 fn entries_from<E: Row<W>, const W: usize, const N: usize>(rows: &[u32], n: usize) -> [E; N]
     requires { length rows.now ≡ W * N }
     ensures { result ≡ listed (λ i. pick (ltb i n) (E.entry_in rows.now i) E.nothing) N 0 }
 {
-    array::from_fn(
-        |i: usize| -> E
-            requires { W * i + W ≤ length rows.now }
-            ensures { result ≡ pick (ltb i n) (E.entry_in rows.entry.now i) E.nothing }
-        { if i < n { E::entry(rows, i) } else { E::none() } },
-    )
+    let mut entries = [E::none(); N];
+    for i in 0..n.min(N) {
+        entries[i] = E::entry(rows, i);
+    }
+    entries
 }
 
 // The table of a span, two counts and two arrays of rows. A row whose kind is unknown makes an entry that breaks the rules:

@@ -8,7 +8,7 @@ use crate::taking::{kind_from, release_from};
 use table::{Server, Task};
 
 // An entry of a table, which is handed out as a row of W numbers and made of one.
-pub trait Row<const W: usize>: Sized {
+pub trait Row<const W: usize>: Copy {
     ghost row_of: { Self → List ℕ };
 
     ghost entry_in: { List ℕ → ℕ → Self };

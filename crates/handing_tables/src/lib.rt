@@ -64,37 +64,28 @@ pub fn hand_reading(
     hand_refusal(&read, line, place)
 }
 
-// Goes one tick on with the machine of the table, if one was read, and hands out the state, holder and runner. Where no step is done, the state stays
-// as it is, with 0 for holder and runner.
-fn take_step(
-    read: Result<Table, Refusal>,
+// Hands out what a step answers: the state, holder and runner. Where no step was done, the state stays as it is, with 0 for holder and runner.
+fn hand_stepped(
+    stepped: &Result<Step, Refusal>,
     tick: &mut u32,
     budgets: &mut [u32; 16],
     waiting: &mut [u32; 64],
     holder: &mut u32,
     runner: &mut u32,
-) -> Result<Step, Refusal>
-    ensures answer { result ≡ step_for read (record { tick = tick.old; budgets = budgets.old; waiting = waiting.old }) }
-    ensures handed { HandsStep result (record { tick = tick.old; budgets = budgets.old; waiting = waiting.old })
-        (refusal_in result) (record { tick = tick.new; budgets = budgets.new; waiting = waiting.new })
+)
+    ensures { HandsStep stepped.now (record { tick = tick.old; budgets = budgets.old; waiting = waiting.old })
+        (refusal_in stepped.now) (record { tick = tick.new; budgets = budgets.new; waiting = waiting.new })
         holder.new runner.new }
 {
-    let before = State {
-        tick: *tick,
-        budgets: *budgets,
-        waiting: *waiting,
-    };
-    let stepped = read.and_then(|table| before.step(table));
     *holder = 0;
     *runner = 0;
     if let Ok(step) = stepped {
         *tick = step.next.tick;
-        budgets.copy_from_slice(&step.next.budgets);
-        waiting.copy_from_slice(&step.next.waiting);
+        *budgets = step.next.budgets;
+        *waiting = step.next.waiting;
         *holder = step.holder;
         *runner = step.runner;
     }
-    stepped
 }
 
 // Goes one tick on with a table's machine. No text is read, so that a refusal has no line and no place.
@@ -112,7 +103,13 @@ pub fn step_table(
         (unplaced result) (record { tick = tick.new; budgets = budgets.new; waiting = waiting.new })
         holder.new runner.new }
 {
-    let stepped = take_step(Ok(table), tick, budgets, waiting, holder, runner);
+    let before = State {
+        tick: *tick,
+        budgets: *budgets,
+        waiting: *waiting,
+    };
+    let stepped = before.step(table);
+    hand_stepped(&stepped, tick, budgets, waiting, holder, runner);
     number_in(&stepped)
 }
 
@@ -132,6 +129,15 @@ pub fn hand_step(
         (record { number = result; line = line.new; place = place.new })
         (record { tick = tick.new; budgets = budgets.new; waiting = waiting.new }) holder.new runner.new }
 {
-    let stepped = take_step(read, tick, budgets, waiting, holder, runner);
+    let before = State {
+        tick: *tick,
+        budgets: *budgets,
+        waiting: *waiting,
+    };
+    let stepped = match &read {
+        Ok(table) => before.step(*table),
+        Err(refusal) => Err(*refusal),
+    };
+    hand_stepped(&stepped, tick, budgets, waiting, holder, runner);
     hand_refusal(&stepped, line, place)
 }

@@ -125,7 +125,7 @@ module _ (l : List ℕ) (p : Passed) (n : ℕ) where
         ∙ ap (λ (x : ℕ). walk (drop (2 * p.windows) l) (n - x)) (sym passes.given)
 
     -- in the next one, if that is long enough
-    provide_there : 2 * p.windows < length l → n ≤ p.given + (get_or l (2 * p.windows + 1) 0 - get_or l (2 * p.windows) 0)
+    pub provide_there : 2 * p.windows < length l → n ≤ p.given + (get_or l (2 * p.windows + 1) 0 - get_or l (2 * p.windows) 0)
         → provide l n ≡ reached_at l p n
     provide_there h k =
         let pair = (next_window plain p.windows h).pair in
@@ -135,7 +135,7 @@ module _ (l : List ℕ) (p : Passed) (n : ℕ) where
         ∙ sym (reached_there h)
 
     -- nowhere, if there is none
-    provide_nowhere : length l ≤ 2 * p.windows → provide l n ≡ reached_at l p n
+    pub provide_nowhere : length l ≤ 2 * p.windows → provide l n ≡ reached_at l p n
     provide_nowhere h =
         provide_behind ∙ ap (λ (r : List ℕ). walk r (n - p.given)) (drop_of_length-le l h) ∙ walk_none (n - p.given) ∙ sym (reached_nowhere h)
 

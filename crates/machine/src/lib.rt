@@ -49,24 +49,24 @@ impl State {
     pub fn step(self, table: Table) -> Result<Step, Refusal>
         ensures { result ≡ step_of table self }
     {
-        required(refusing::accepted(self, table), Ground::OutOfStep)?;
-        Ok(self.after_tick(table))
+        required(refusing::accepted(self, &table), Ground::OutOfStep)?;
+        Ok(self.after_tick(&table))
     }
 
     // One tick from a state that is not refused.
-    fn after_tick(self, table: Table) -> Step
-        requires obeyed { Obeyed table }
-        requires accepted { accepts table self ≡ true }
-        ensures { result ≡ stepped table self }
+    fn after_tick(self, table: &Table) -> Step
+        requires obeyed { Obeyed table.now }
+        requires accepted { accepts table.now self ≡ true }
+        ensures { result ≡ stepped table.now self }
     {
-        let filled = refilling::refill(self, table);
-        let ready = releasing::release(filled, table);
-        let firsts = picking::first_tasks(ready, table);
-        let holder = picking::first_server(ready, table, firsts);
+        let filled = refilling::refill(self, *table);
+        let ready = releasing::release(filled, *table);
+        let firsts = picking::first_tasks(ready, *table);
+        let holder = picking::first_server(ready, *table, firsts);
         let runner = picking::first_task(holder, firsts);
         let mut next = ready;
-        running::lose_one(&mut next.budgets, holder);
-        running::lose_one(&mut next.waiting, runner);
+        running::spend(&mut next, holder);
+        running::run(&mut next, runner);
         next.tick += 1;
         Step {
             next,

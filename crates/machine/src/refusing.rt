@@ -30,11 +30,11 @@ fn work_within(state: State, table: Table) -> bool
 
 // Whether a step from a state is not refused.
 #[tactic(auto, unfolding(crate::specs::Machine::accepts))]
-pub fn accepted(state: State, table: Table) -> bool
-    ensures { result ≡ accepts table state }
+pub fn accepted(state: State, table: &Table) -> bool
+    ensures { result ≡ accepts table.now state }
 {
-    obeys_rules(table)
+    obeys_rules(*table)
         && state.tick < table.span
-        && budgets_within(state, table)
-        && work_within(state, table)
+        && budgets_within(state, *table)
+        && work_within(state, *table)
 }

@@ -51,6 +51,24 @@ put_more {old} {mid} {new} {a} {b} {n} {m} {r} v w =
           ∙ ap (λ (k : ℕ). take n old ++ ((a ++ b) ++ drop k old)) (sym c);
     }
 
+-- ---- what is still to come
+
+-- of the bytes `all`, to be put behind n, `rest` is still to come, behind m: once it is put too, all is
+pub record Begun (old now : List ℕ) (n m : ℕ) (rest all : List ℕ) : Type 0 where
+  pub ends : (new : List ℕ) (r : ℕ) → Put now new m rest r → Put old new n all r
+
+-- at first all is still to come
+pub begun_none : (old : List ℕ) (n : ℕ) (all : List ℕ) → Begun old old n n all all
+begun_none old n all = record { ends = λ new r w. w }
+
+-- a line is put
+pub begun_next : {old mid now line rest all : List ℕ} {n m k : ℕ} → Begun old mid n m (line ++ rest) all → Put mid now m line k → Begun old now n k rest all
+begun_next b v = record { ends = λ new r w. b.ends new r (put_more v w) }
+
+-- in the end all is put
+pub begun_all : {old now all : List ℕ} {n m : ℕ} → Begun old now n m [] all → Put old now n all m
+begun_all {now = now} {m = m} b = b.ends now m (put_none now m)
+
 -- ---- the part of a buffer behind what is there
 
 -- bytes put at the front of that part, k bytes long, are put behind what is there

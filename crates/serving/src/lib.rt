@@ -10,8 +10,8 @@ ghost use Rattle.buffers.specs.Work.{Same};
 ghost use Rattle.demands.specs.Walks.{TaskObeyed};
 ghost use Rattle.serving.specs.Wanted.{wanted_of};
 
-use buffers::put;
 use buffers::work::Work;
+use buffers::{copy, put};
 use demands::releasing::demand;
 use demands::summing::sum_tasks;
 use holding::{Counts, hold};
@@ -54,7 +54,7 @@ pub fn hold_server(
         held,
         spare,
     );
-    free[..counts.left].copy_from_slice(&spare[..counts.left]);
+    copy(&spare[..counts.left], free);
     counts
 }
 
@@ -92,6 +92,6 @@ pub fn share(
 {
     let demanded = demand(task, span, part);
     let counts = hold(ALL, ALL, &part[..demanded], &held[..count], running, spare);
-    held[..counts.left].copy_from_slice(&spare[..counts.left]);
+    copy(&spare[..counts.left], held);
     counts
 }

@@ -28,7 +28,7 @@ use Rattle.std.specs.Bool.{then_some}
 pub joins_over : (periods : List ℕ) → JoinsAll None periods None
 joins_over periods = record { bounded = tt; leads = λ whole ahead s. s }
 
-joins_lcm : (m p r : ℕ) → IsLcm m p r → r ≤ 16000 → JoinsAll (Some m) (p ∷ []) (Some r)
+pub joins_lcm : (m p r : ℕ) → IsLcm m p r → r ≤ 16000 → JoinsAll (Some m) (p ∷ []) (Some r)
 joins_lcm m p r l h = record {
   bounded = (l.some, h);
   leads = λ whole ahead s. record {
@@ -39,7 +39,7 @@ joins_lcm m p r l h = record {
   };
 }
 
-joins_large : (m p r : ℕ) → IsLcm m p r → 16000 < r → JoinsAll (Some m) (p ∷ []) None
+pub joins_large : (m p r : ℕ) → IsLcm m p r → 16000 < r → JoinsAll (Some m) (p ∷ []) None
 joins_large m p r l h = record {
   bounded = tt;
   leads = λ whole ahead s n z b d.

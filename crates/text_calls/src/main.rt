@@ -18,11 +18,12 @@
 // line feed counted. The input may have any length, and its last line needs no line feed.
 #![tactic(auto)]
 
+use batch::decoding::decode;
 use batch::output::Output;
-use batch::{answer_lines, copy_or_answer};
+use batch::{TEXT, answer_lines, copy_or_answer};
 use std::fmt;
 use text_buffers::{put_analysis, put_who};
-use text_lines::asking::{Request, read_line};
+use text_lines::asking::{Asked, Request, read_line};
 use text_lines::tables::put_reading;
 use text_reports::reports::{put_machine_report, put_report, put_rewritten, put_with_room};
 use text_reports::ticks::put_ticks;
@@ -41,10 +42,17 @@ fn answer(request: Request, text: &[u8], out: &mut Output) -> fmt::Result {
     }
 }
 
+// Answers what is asked; none where the digits stand for no text. The text's bytes stand in a frame of their own, and not in that of each line.
+#[inline(never)]
+fn answer_text(asked: Asked, out: &mut Output) -> Option<fmt::Result> {
+    let mut bytes = [0u8; TEXT];
+    let count = decode(asked.digits, &mut bytes)?;
+    Some(answer(asked.request, &bytes[..count], out))
+}
+
 // Answers a line; none where it has another form.
 fn answer_line(line: &[u8], out: &mut Output) -> Option<fmt::Result> {
-    let asked = read_line(line)?;
-    Some(answer(asked.request, &asked.text, out))
+    answer_text(read_line(line)?, out)
 }
 
 // Answers the lines of standard input.

@@ -2,9 +2,6 @@
 // lowercase hexadecimal digits for each byte.
 ghost use Rattle.std.specs.Prelude.{◌≤◌, IfSome};
 
-use arrayvec::ArrayVec;
-use batch::TEXT;
-use batch::decoding::decode;
 use batch::fields::Fields;
 
 // The most numbers that are lent in a work buffer.
@@ -35,11 +32,11 @@ pub enum Request {
     Rewritten,
 }
 
-// A line: what it asks for, and the text.
-#[derive(Drop)]
-pub struct Asked {
+// A line: what it asks for, and the digits of the text.
+#[derive(Clone, Copy)]
+pub struct Asked<'a> {
     pub request: Request,
-    pub text: ArrayVec<u8, TEXT>,
+    pub digits: &'a [u8],
 }
 
 // Reads how much of a work buffer is lent.
@@ -77,11 +74,13 @@ fn read_request(fields: &mut Fields) -> Option<Request> {
     Some(request)
 }
 
-// Reads a line; none where it asks for nothing.
-pub fn read_line(line: &[u8]) -> Option<Asked> {
+// Reads a line up to its text; none where it asks for nothing. What its digits stand for is `batch::decode`'s, for which room is lent.
+pub fn read_line(line: &[u8]) -> Option<Asked<'_>> {
     let mut fields = Fields::of(line);
     let request = read_request(&mut fields)?;
     fields.space()?;
-    let text = decode(fields.rest)?;
-    Some(Asked { request, text })
+    Some(Asked {
+        request,
+        digits: fields.rest,
+    })
 }

@@ -17,61 +17,55 @@ use call_lines::put_lent;
 use entries::table_from;
 use std::fmt;
 
-// What a line has: how much is lent, and the parts of a table that is handed in, arrays and counts as `table_from` takes them.
+// What stands in front of the rows: how much is lent, span and counts as `table_from` takes them, and how many rows there are.
 #[derive(Clone, Copy)]
-struct Handed {
+struct Head {
     room: usize,
     span: u32,
     servers_n: usize,
     tasks_n: usize,
-    servers: [u32; 48],
-    tasks: [u32; 384],
+    server_rows: u32,
+    task_rows: u32,
 }
 
-// Reads so many rows of so many numbers to the front of an array; none where they do not fit.
-fn read_rows<const N: usize>(fields: &mut Fields, rows: u32, width: usize) -> Option<[u32; N]> {
-    let count = width.checked_mul(rows as usize)?;
-    let mut numbers = [0u32; N];
-    for number in numbers.get_mut(..count)? {
-        *number = fields.next_number()?;
-    }
-    Some(numbers)
-}
-
-// Reads a line; none where it has another form.
-fn read_line(line: &[u8]) -> Option<Handed> {
-    let mut fields = Fields::of(line);
-    let room = fields.number()? as usize;
-    let span = fields.next_number()?;
-    let servers_n = fields.next_number()? as usize;
-    let tasks_n = fields.next_number()? as usize;
-    let server_rows = fields.next_number()?;
-    let task_rows = fields.next_number()?;
-    let servers = read_rows(&mut fields, server_rows, 3)?;
-    let tasks = read_rows(&mut fields, task_rows, 6)?;
-    fields.end()?;
-    Some(Handed {
-        room,
-        span,
-        servers_n,
-        tasks_n,
-        servers,
-        tasks,
+// Reads what stands in front of the rows; none where it has another form, or where there are too many rows.
+fn read_head(fields: &mut Fields) -> Option<Head> {
+    Some(Head {
+        room: fields.number()? as usize,
+        span: fields.next_number()?,
+        servers_n: fields.next_number()? as usize,
+        tasks_n: fields.next_number()? as usize,
+        server_rows: fields.number_up_to(16)?,
+        task_rows: fields.number_up_to(64)?,
     })
 }
 
-// Answers a line; none where it has another form.
+// Reads so many rows of so many numbers to the front of an array; none where they do not fit.
+fn read_rows(fields: &mut Fields, rows: u32, width: usize, numbers: &mut [u32]) -> Option<()> {
+    let count = width.checked_mul(rows as usize)?;
+    for number in numbers.get_mut(..count)? {
+        *number = fields.next_number()?;
+    }
+    Some(())
+}
+
+// Answers the rows of a line; none where they have another form.
+fn answer_rows(head: Head, mut fields: Fields, out: &mut Output) -> Option<fmt::Result> {
+    let mut servers = [0u32; 48];
+    let mut tasks = [0u32; 384];
+    read_rows(&mut fields, head.server_rows, 3, &mut servers)?;
+    read_rows(&mut fields, head.task_rows, 6, &mut tasks)?;
+    fields.end()?;
+    let table = table_from(head.span, head.servers_n, head.tasks_n, &servers, &tasks);
+    let write = |bytes: &mut [u8]| writing::write(table, bytes);
+    Some(put_lent(out, head.room, write))
+}
+
+// Answers a line; none where it has another form. The arrays are made once its head is read.
 fn answer_line(line: &[u8], out: &mut Output) -> Option<fmt::Result> {
-    let handed = read_line(line)?;
-    let table = table_from(
-        handed.span,
-        handed.servers_n,
-        handed.tasks_n,
-        &handed.servers,
-        &handed.tasks,
-    );
-    let room = handed.room;
-    Some(put_lent(out, room, |bytes| writing::write(table, bytes)))
+    let mut fields = Fields::of(line);
+    let head = read_head(&mut fields)?;
+    answer_rows(head, fields, out)
 }
 
 // Answers the lines of standard input.

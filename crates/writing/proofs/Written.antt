@@ -52,13 +52,21 @@ same_bytes_lem s =
     ap₂ (λ (H : ℕ) (ls : List (List ℕ)). ended (span_line H ∷ ls)) s.span
     (ap₂ (λ (ss : List Server) (ks : List Task). map server_line ss ++ map task_line ks) s.servers s.tasks)
 
--- what was read back is written as before
-pub written_again : (table : Table) → Obeyed table → {read : Table} → reading_of (text_of table) ≡ Ok read → text_of read ≡ text_of table
-written_again table o {read} e =
+-- a table is read back, and whichever is read is written as before
+pub record Again (table : Table) : Type 0 where
+  pub read : Table
+  pub answer : reading_of (text_of table) ≡ Ok read
+  pub same : {other : Table} → reading_of (text_of table) ≡ Ok other → text_of other ≡ text_of table
+
+read_again : (table : Table) → Obeyed table → {read : Table} → reading_of (text_of table) ≡ Ok read → text_of read ≡ text_of table
+read_again table o {read} e =
     let b = written_back table o in
     let z = sym e ∙ b.answer in
     let s : read ≡ b.read = cc in
     rw s (same_bytes_lem b.same)
+
+pub written_again : (table : Table) → Obeyed table → Again table
+written_again table o = let b = written_back table o in record { read = b.read; answer = b.answer; same = read_again table o }
 
 -- and only they do
 pub bytes_same : {a b : Table} → Obeyed a → Obeyed b → text_of a ≡ text_of b → Same a b

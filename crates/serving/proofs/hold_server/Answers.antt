@@ -31,4 +31,4 @@ returns-clause-left c =
     let a = c.args in
     let p = c.requires in
     let e = c.hold-counts.ensures in
-    copied _ (omega (arith, e.fits, p.2.room)) (omega arith) (server_leaves a.table p.0 a.i p.1 _ p.2.curve _ c.wanted-wanted.ensures.front e.left) c.copy_from_slice.ensures.after
+    copied (server_leaves a.table p.0 a.i p.1 _ p.2.curve _ c.wanted-wanted.ensures.front e.left) c.copy.ensures

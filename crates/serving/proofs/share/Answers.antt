@@ -1,5 +1,5 @@
 use Rattle.buffers.proofs.Copies.{copied}
-use Rattle.std.proofs.Common.{refl, arith}
+use Rattle.std.proofs.Common.{arith}
 use Rattle.serving.proofs.Fittings.{share_demand, share_supply, share_serves, share_leaves}
 use Rattle.serving.proofs.share.Goals as goal
 
@@ -14,4 +14,4 @@ returns c =
     let p = c.requires in
     let w = c.demand-demanded.ensures in
     let e = c.hold-counts.ensures in
-    (share_serves p.0 p.2 w p.3 e.taken, copied _ (omega (arith, e.fits, p.3.room)) refl (share_leaves p.0 p.2 w p.3 e.left) c.copy_from_slice.ensures.after)
+    (share_serves p.0 p.2 w p.3 e.taken, copied (share_leaves p.0 p.2 w p.3 e.left) c.copy.ensures)

@@ -1,5 +1,5 @@
 -- The parts of a tick in their order.
-use Rattle.std.proofs.Common.{rules, arith, ap, ◌≡◌, ◌∙◌, length}
+use Rattle.std.proofs.Common.{rules, ap, ◌≡◌, ◌∙◌}
 use Rattle.table.proofs.Obeyed.{span_most}
 use Rattle.machine.specs.declared.State.{State}
 use Rattle.machine.specs.Machine.{releases, ready}
@@ -12,22 +12,19 @@ release-ready-requires c = (c.requires.obeyed, rw c.refill-filled.ensures (accep
 pub first_task-runner-requires : goal.first_task-runner-requires
 first_task-runner-requires c = holder_most _ c.requires.obeyed c.release-ready.result _ c.first_server-holder.ensures
 
-pub lose_one-requires : goal.lose_one-requires
-lose_one-requires c =
+pub spend-requires : goal.spend-requires
+spend-requires c =
     let r = c.release-ready.result in
     let h = c.first_server-holder.result in
-    let long : length r.budgets ≡ 16 = search rules in
-    let most = holder_most _ c.requires.obeyed r h c.first_server-holder.ensures in
-    (omega (arith, most, long), holder_has _ c.requires.obeyed r h c.first_server-holder.ensures)
+    (holder_most _ c.requires.obeyed r h c.first_server-holder.ensures, holder_has _ c.requires.obeyed r h c.first_server-holder.ensures)
 
-pub lose_one-requires-2 : goal.lose_one-requires-2
-lose_one-requires-2 c =
+pub run-requires : goal.run-requires
+run-requires c =
     let r = c.release-ready.result in
     let h = c.first_server-holder.result in
-    let long : length r.waiting ≡ 64 = search rules in
     let most = holder_most _ c.requires.obeyed r h c.first_server-holder.ensures in
     let is = c.first_task-runner.ensures ∙ first_runs _ c.requires.obeyed r _ h c.first_tasks-firsts.ensures most in
-    (omega (arith, runner_most _ c.requires.obeyed r h _ is, long), runner_has _ c.requires.obeyed r h _ is)
+    rw c.spend.ensures (runner_most _ c.requires.obeyed r h _ is, runner_has _ c.requires.obeyed r h _ is)
 
 pub overflow_add-next : goal.overflow_add-next
 overflow_add-next c =
@@ -43,5 +40,5 @@ returns c =
     let k = c.first_task-runner.result in
     let most = holder_most _ c.requires.obeyed r h c.first_server-holder.ensures in
     let is = c.first_task-runner.ensures ∙ first_runs _ c.requires.obeyed r _ h c.first_tasks-firsts.ensures most in
-    let ready-so = c.release-ready.ensures ∙ ap (releases c.args.table) c.refill-filled.ensures in
-    rw (c.lose_one.ensures, c.lose_one-2.ensures) (step_goes c.args.table c.args.self r h k ready-so c.first_server-holder.ensures is)
+    let ready-so = c.release-ready.ensures ∙ ap (releases c.args.table.now) c.refill-filled.ensures in
+    rw (c.run.ensures, c.spend.ensures) (step_goes c.args.table.now c.args.self r h k ready-so c.first_server-holder.ensures is)
