@@ -1,22 +1,40 @@
--- The first digits of a text, and the number that they make. Assumes nothing.
-use Rattle.std.proofs.Common.{◌≡◌, ℕ, ◌+◌, ◌-◌, ◌*◌, ◌<◌, true, List, length, get_or, take, arith}
-use Rattle.std.proofs.lemmas.List.{get_or-take}
-use Rattle.std.proofs.lemmas.List.Folds.{length-prefix_len}
-use Rattle.std.proofs.lemmas.List.Sums.{prefix_len_passes}
+-- The digits at the front of a text, one at a time, and the number that they make. Assumes nothing.
+use Rattle.std.proofs.Common.{◌≡◌, refl, ap, suc, ℕ, ◌+◌, ◌-◌, ◌*◌, ◌≤◌, true, false, List, [], ◌∷◌, length, get_or, take, drop, arith}
+use lib.Seq.{take_all}
 use Rattle.std.proofs.lemmas.Bool.Decides.{nat_tests}
 use Rattle.std.specs.Char.{is_ascii_digit, digit_value}
 use Rattle.std.specs.List.{prefix_len}
-use Rattle.std.specs.Str.Parse.{digits_value}
-use Rattle.std.proofs.lemmas.Int.Digits.{digits_value_more}
+use Rattle.std.specs.Str.Parse.{digits_value_after}
 
--- with one digit more
-pub next_value : (ds : List ℕ) (i value : ℕ) → i < length ds → is_ascii_digit (get_or ds i 0) ≡ true → value ≡ digits_value 10 (take i ds) → digits_value 10 (take (i + 1) ds) ≡ value * 10 + (get_or ds i 0 - 48)
-next_value ds i value inside digit is =
-    let worth : digit_value (get_or ds i 0) ≡ get_or ds i 0 - 48 = grind (arith, nat_tests) in
-    rw (digits_value_more 10 ds i inside, worth, is)
+-- what the digits at the front of a text make behind a number
+abbrev pub made : ℕ → List ℕ → ℕ
+made n l = digits_value_after 10 n (take (prefix_len is_ascii_digit l) l)
 
--- each is a digit
-pub first_digits : (text : List ℕ) (i : ℕ) → i < length (take (prefix_len is_ascii_digit text) text) → is_ascii_digit (get_or (take (prefix_len is_ascii_digit text) text) i 0) ≡ true
-first_digits text i within =
-    let few = length-prefix_len is_ascii_digit text in
-    rw (get_or-take (prefix_len is_ascii_digit text) text i 0 (omega arith)) (prefix_len_passes is_ascii_digit text i 0 (omega arith))
+-- what stands behind them
+abbrev pub behind : List ℕ → List ℕ
+behind l = drop (prefix_len is_ascii_digit l) l
+
+-- a digit at the front
+pub behind_digit : (l : List ℕ) → 1 ≤ length l → is_ascii_digit (get_or l 0 0) ≡ true → behind (take (length l - 1) (drop 1 l)) ≡ behind l
+behind_digit [] h d = absurd (omega arith)
+behind_digit (b ∷ l) h d = let one : suc (prefix_len is_ascii_digit l) ≡ 1 + prefix_len is_ascii_digit l = omega arith in
+    rw (take_all (length (b ∷ l) - 1) l (omega arith), d) (ap (λ (k : ℕ). drop k (b ∷ l)) one)
+
+pub made_digit : (n : ℕ) (l : List ℕ) → 1 ≤ length l → is_ascii_digit (get_or l 0 0) ≡ true → made (10 * n + (get_or l 0 0 - 48)) (take (length l - 1) (drop 1 l)) ≡ made n l
+made_digit n [] h d = absurd (omega arith)
+made_digit n (b ∷ l) h d =
+    let worth : digit_value b ≡ b - 48 = grind (arith, nat_tests) in
+    let next : 10 * n + (b - 48) ≡ n * 10 + digit_value b = omega (arith, worth) in
+    let one : suc (prefix_len is_ascii_digit l) ≡ 1 + prefix_len is_ascii_digit l = omega arith in
+    rw (take_all (length (b ∷ l) - 1) l (omega arith), d, next) (ap (λ (k : ℕ). digits_value_after 10 n (take k (b ∷ l))) one)
+
+-- none
+pub behind_none : (l : List ℕ) → (1 ≤ length l → is_ascii_digit (get_or l 0 0) ≡ false) → behind l ≡ l
+behind_none [] d = refl
+behind_none (b ∷ l) d = rw (d (omega arith)) refl
+
+pub made_none : (n : ℕ) (l : List ℕ) → (1 ≤ length l → is_ascii_digit (get_or l 0 0) ≡ false) → made n l ≡ n
+made_none n [] d = refl
+made_none n (b ∷ l) d = rw (d (omega arith)) refl
+
+pub ruleset digits = (behind_digit, made_digit, behind_none, made_none)

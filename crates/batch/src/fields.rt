@@ -1,34 +1,11 @@
 // Reading a line's fields, one after the other: decimal numbers that are parted by single spaces.
-ghost use Rattle.std.specs.Prelude.{◌≡◌, ◌≢◌, ◌≤◌, ◌<◌, ◌↔◌, ℕ, true, List, ◌∷◌, [], IfSome, Some, None, take, drop, length, get_or};
+ghost use Rattle.std.specs.Prelude.{◌≡◌, ◌≢◌, ◌≤◌, ◌↔◌, ℕ, List, ◌∷◌, [], IfSome, Some, None, take, drop, length, get_or};
 ghost use Rattle.std.specs.Char.{is_ascii_digit};
 ghost use Rattle.std.specs.List.{prefix_len};
 ghost use Rattle.std.specs.Str.Parse.{digits_value};
 
-// How many of the first bytes are digits.
-fn digits_first(text: &[u8]) -> usize
-    ensures first { result ≡ prefix_len is_ascii_digit text.now }
-    ensures within { result ≤ length text.now }
-{
-    text.iter().take_while(|byte| byte.is_ascii_digit()).count()
-}
-
-// The number that digits make, if there are any and it has 32 bits. `str::parse` needs the digits as UTF-8 first, and takes half as long again.
-#[tactic(auto, using(crate::proofs::Digits::next_value))]
-fn value(digits: &[u8]) -> Option<u32>
-    requires { (i : ℕ) → i < length digits.now → is_ascii_digit (get_or digits.now i 0) ≡ true }
-    ensures { IfSome result (λ number. number ≡ digits_value 10 digits.now) }
-{
-    if digits.is_empty() {
-        return None;
-    }
-    let mut value: u32 = 0;
-    for digit in digits {
-        value = value
-            .checked_mul(10)?
-            .checked_add(u32::from(*digit - b'0'))?;
-    }
-    Some(value)
-}
+// The first number that has more than 32 bits.
+const OVER: u64 = 4_294_967_296;
 
 // What is not yet read of a line.
 #[derive(Clone, Copy)]
@@ -45,14 +22,27 @@ impl<'a> Fields<'a> {
     }
 
     // Reads the number whose digits come next, if it has 32 bits.
-    #[tactic(auto, using(crate::proofs::Digits::first_digits))]
+    // One walk: `str::parse` goes over the digits three times.
+    #[tactic(auto, using(crate::proofs::Digits::digits))]
     pub fn number(&mut self) -> Option<u32>
         ensures behind { self.new.rest.now ≡ drop (prefix_len is_ascii_digit self.old.rest.now) self.old.rest.now }
         ensures read { IfSome result (λ number. number ≡ digits_value 10 (take (prefix_len is_ascii_digit self.old.rest.now) self.old.rest.now)) }
     {
-        let (digits, rest) = self.rest.split_at(digits_first(self.rest));
-        self.rest = rest;
-        value(digits)
+        let all = self.rest.len();
+        let mut value: u64 = 0;
+        let mut ahead = self.rest;
+        while let [digit, behind @ ..] = ahead {
+            if !digit.is_ascii_digit() {
+                break;
+            }
+            value = (10 * value + u64::from(*digit - b'0')).min(OVER);
+            ahead = behind;
+        }
+        self.rest = ahead;
+        if ahead.len() == all {
+            return None;
+        }
+        u32::try_from(value).ok()
     }
 
     // Reads the space that comes next.
