@@ -1,17 +1,18 @@
 -- The pieces of a fitting, one at a time. Assumes nothing.
 use Prim.Native.Nat.{ℕ, ◌≤◌, ◌<◌, max, min}
-use mathlib.Core.Path.{◌≡◌, refl}
+use mathlib.Core.Path.{◌≡◌, refl, ◌∙◌}
 use mathlib.Core.List.{List, [], ◌∷◌}
 use native.Mathlib.Omega.{arith}
 use native.Mathlib.Decide.{dec_le}
 use lib.ListN.{length, get_or, drop}
+use borrow.Author.Tests.{le-leb, lt-leb}
 use Rattle.windows.specs.Windows.{plain_from, window, fit, leaving}
 use Rattle.windows.specs.Walks.{raise}
 use Rattle.windows.proofs.Ticks.{plain_apart, window_some, window_none}
 use Rattle.windows.proofs.Fitting.{fit_no_demand, fit_leaving}
 use Rattle.windows.proofs.Stretching.{fit_unwanted, fit_unserved, fit_side, raise_none}
 use Rattle.walks.proofs.Fronts.{behind, behind_is}
-use Rattle.fitting.specs.Steps.{demand_ahead, fit_ahead, FitSound, Goes, Unsupplied, InSupply, Supplied, Stretches}
+use Rattle.fitting.specs.Steps.{demand_ahead, fit_ahead, FitSound, Unpassed, Goes, Unsupplied, InSupply, Supplied, Stretches}
 use Rattle.fitting.specs.declared.Fitting.{Fitting}
 use Rattle.fitting.specs.declared.Piece.{Piece}
 use Rattle.fitting.specs.declared.Part.TheVariants.{Left, Served, Rest}
@@ -19,6 +20,33 @@ use Rattle.fitting.specs.declared.Stretch.{Stretch}
 use Rattle.fitting.proofs.Stretches.{Ahead, ahead_window, ahead_none, ahead_some, plain_from_later}
 
 pub ruleset starts = (raise_none)
+
+-- ---- the supply is handed on with its first window, or without it
+
+module _ {curve ahead : List ℕ} {instant : ℕ} where
+  pub unpassed_first : instant < get_or curve 1 0 → ahead ≡ curve → Unpassed curve instant ahead
+  unpassed_first h e = record {
+    by_place = record { place = 0; inside = omega arith; is = e };
+    few = omega arith;
+    is = rw (lt-leb (get_or curve 1 0) instant h) e;
+  }
+
+  pub unpassed_behind : 2 ≤ length curve → get_or curve 1 0 ≤ instant → ahead ≡ behind curve → Unpassed curve instant ahead
+  unpassed_behind s h e =
+      let later = e ∙ behind_is curve in
+      record {
+        by_place = record { place = 2; inside = s; is = later };
+        few = omega arith;
+        is = rw (le-leb (get_or curve 1 0) instant h) later;
+      }
+
+  -- where there is none
+  pub unpassed_none : curve ≡ [] → ahead ≡ curve → Unpassed curve instant ahead
+  unpassed_none none e = record {
+    by_place = record { place = 0; inside = omega arith; is = e };
+    few = omega arith;
+    is = rw (none, le-leb 0 instant (omega arith)) (e ∙ none);
+  }
 
 -- ---- the supply from an instant of its first window on
 

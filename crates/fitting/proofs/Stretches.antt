@@ -6,18 +6,32 @@ use mathlib.Core.Bool.{true}
 use native.Mathlib.Numerals.{add-one}
 use native.Mathlib.Omega.{arith}
 use native.Mathlib.Decide.{dec_lt}
-use lib.ListN.{length, get_or}
+use lib.ListN.{length, get_or, drop, length-drop}
+use lib.Seq.{drop-drop}
 use Rattle.windows.specs.Windows.{is_plain, plain_from, window, fit}
 use Rattle.windows.specs.Walks.{raise, open_first}
 use Rattle.windows.proofs.Ticks.{Apart, Front, plain_front, plain_lower, plain_apart, front_plain, not_odd, window_some, window_none}
 use Rattle.windows.proofs.Stretching.{open_none, stretch_whole, stretch_over, stretch_none, stretch_stop, later_demand, later_supply, raise_none}
 use Rattle.walks.proofs.Fronts.{behind, behind_is}
-use Rattle.fitting.specs.Steps.{demand_ahead, demand_behind, InStretch, Stretches}
+use Rattle.fitting.specs.Steps.{demand_ahead, demand_behind, ByPlace, InStretch, Stretches}
 use Rattle.fitting.specs.declared.Fitting.{Fitting}
 use Rattle.fitting.specs.declared.Stretch.{Stretch}
 
 pub apart_behind : (e : ℕ) (l : List ℕ) → plain_from (e + 1) l ≡ true → Apart (suc e) l
 apart_behind e l h = rw add-one at (plain_apart (e + 1) l h)
+
+-- ---- what is handed on stands at a place of the curve
+
+pub place_first : {curve ahead : List ℕ} → ahead ≡ curve → ByPlace curve ahead
+place_first e = record { place = 0; inside = omega arith; is = e }
+
+-- a window further
+pub place_behind : {curve ahead later : List ℕ} → 2 ≤ length ahead → later ≡ behind ahead → ByPlace curve ahead → ByPlace curve later
+place_behind {curve} {ahead} h e p = record {
+  place = p.place + 2;
+  inside = omega (arith, h, ap length p.is, length-drop p.place curve, p.inside);
+  is = e ∙ behind_is ahead ∙ ap (drop 2) p.is ∙ drop-drop 2 p.place curve;
+}
 
 -- ---- the first window of what is left, wanted from w on
 
@@ -67,6 +81,7 @@ pub record Stretching (w : Fitting) (from end : ℕ) (o : Stretch) : Type 0 wher
   pub low : from ≤ o.till
   pub high : o.till ≤ end
   pub plain : is_plain (demand_behind o) ≡ true
+  pub demand : ByPlace w.demand.now o.demand.now
   pub first : o.till ≡ from → (o.demand.now ≡ w.demand.now) × (o.wanted ≡ w.wanted)
   pub is : (s : List ℕ) → plain_from (end + 1) s ≡ true
       → fit (demand_ahead w) (from ∷ (end ∷ s)) ≡ open_first from o.till (fit (demand_behind o) (window o.till end s))
@@ -80,6 +95,7 @@ stretching_first {w} {from} {end} {o} p ed ew et =
       low = omega (arith, et);
       high = omega (arith, et);
       plain = rw (ed, ew) p.plain;
+      demand = place_first ed;
       first = λ e. (ed, ew);
       is = λ s h. rw (ed, ew, et, window_some from end s p.below, open_none from (fit (demand_ahead w) (from ∷ (end ∷ s))));
     }
@@ -144,6 +160,7 @@ module _ {w : Fitting} {from end : ℕ} {o : Stretch} (p : Stretching w from end
           low = omega (arith, p.low, et);
           high = omega (arith, p.high, et);
           plain = rw (ed, ew, raise_none (behind o.demand.now)) a.later;
+          demand = place_behind h ed p.demand;
           first = λ x. absurd (omega (arith, p.low, et));
           is = λ s j.
               rw (ed, ew, et, raise_none (behind o.demand.now))

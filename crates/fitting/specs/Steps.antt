@@ -1,5 +1,6 @@
 -- What the walk of a fitting has before it and must give, and the room that its results need (01, number 11).
 use Rattle.std.specs.Prelude.{ℕ, ◌+◌, ◌≤◌, ◌<◌, max, ◌≡◌, List, [], ◌∷◌, Bool, true, ◌&&◌, length, get_or, drop, leb, Option, Some, None}
+use Rattle.basics.specs.Choice.{pick}
 use Rattle.windows.specs.Windows.{is_plain, plain_from, window, Fit, leaving, fit}
 use Rattle.windows.specs.Walks.{raise, served_first, rest_first}
 use Rattle.fitting.specs.declared.Fitting.{Fitting}
@@ -41,6 +42,23 @@ pub record Goes (w : Fitting) (p : Piece) : Type 0 where
 abbrev pub FitGives : Fitting → Option Piece → Type 0
 FitGives w (Some p) = Goes w p
 FitGives w None = fit_ahead w ≡ record { left = []; served = []; rest = [] }
+
+-- a curve handed on by its place: from one of its numbers on
+pub record ByPlace (curve ahead : List ℕ) : Type 0 where
+  pub place : ℕ
+  pub inside : place ≤ length curve
+  pub is : ahead ≡ drop place curve
+
+-- and from its first window that is not yet used up or passed at an instant: without the first, where that has ended by then
+pub record Unpassed (curve : List ℕ) (instant : ℕ) (ahead : List ℕ) : Type 0 where
+  pub by_place : ByPlace curve ahead
+  pub few : by_place.place ≤ 2
+  pub is : ahead ≡ pick (leb (get_or curve 1 0) instant) (drop 2 curve) curve
+
+-- what is handed on behind a piece: "the search for the next goes on in the part of the supply that starts there"
+pub record HandsOn (w : Fitting) (p : Piece) : Type 0 where
+  pub supply : Unpassed w.supply.now p.end p.behind.supply.now
+  pub demand : ByPlace w.demand.now p.behind.demand.now
 
 -- the demand alone is left
 pub record Unsupplied (w : Fitting) : Type 0 where

@@ -1,10 +1,10 @@
 // Fitting, a piece at a time: one step, a walk that counts and a walk that writes.
 #![tactic(auto)]
 
-ghost use Rattle.std.specs.Prelude.{◌≡◌, true, length};
+ghost use Rattle.std.specs.Prelude.{◌≡◌, true, length, IfSome};
 ghost use Rattle.windows.specs.Windows.{is_plain, fit};
 ghost use Rattle.refusals.specs.Outcomes.{front};
-ghost use Rattle.fitting.specs.Steps.{fit_ahead, FitSound, FitGives, InStretch, Stretches, InSupply, Supplied, Unsupplied, RoomGives, fit_rooms, FitWrites};
+ghost use Rattle.fitting.specs.Steps.{fit_ahead, FitSound, FitGives, HandsOn, InStretch, Stretches, ByPlace, InSupply, Supplied, Unpassed, Unsupplied, RoomGives, fit_rooms, FitWrites};
 
 use walks::put;
 
@@ -69,7 +69,8 @@ impl<'a> Fitting<'a> {
     // Serves demand from `from` on, in a supply window that ends at `end`, as long as it starts in time.
     fn stretch(self, from: u32, end: u32) -> Stretch<'a>
         requires { InStretch self from end }
-        ensures { Stretches self.entry from end result }
+        ensures stretches { Stretches self.entry from end result }
+        ensures demand { ByPlace self.entry.demand.now result.demand.now }
     {
         let mut served = Stretch {
             demand: self.demand,
@@ -101,7 +102,8 @@ impl<'a> Fitting<'a> {
     // The fitting once the first supply window is served or left up to `till`.
     fn supplied_from(self, till: u32) -> Fitting<'a>
         requires { InSupply self till }
-        ensures { Supplied self.entry till result }
+        ensures supplied { Supplied self.entry till result }
+        ensures supply { Unpassed self.entry.supply.now till result.supply.now }
     {
         let [_, end, behind @ ..] = self.supply else {
             return self;
@@ -119,7 +121,8 @@ impl<'a> Fitting<'a> {
     // The next window of the demand where no supply is left.
     fn unserved(self) -> Option<Piece<'a>>
         requires { Unsupplied self }
-        ensures { FitGives self.entry result }
+        ensures gives { FitGives self.entry result }
+        ensures handed { IfSome result (HandsOn self.entry) }
     {
         let [start, end, later @ ..] = self.demand else {
             return None;
@@ -141,7 +144,8 @@ impl<'a> Fitting<'a> {
     #[tactic(auto, using(crate::proofs::Pieces::pieces))]
     fn next(self) -> Option<Piece<'a>>
         requires { FitSound self }
-        ensures { FitGives self.entry result }
+        ensures gives { FitGives self.entry result }
+        ensures handed { IfSome result (HandsOn self.entry) }
     {
         let [start, end, ..] = self.supply else {
             return self.unserved();

@@ -98,5 +98,11 @@ impl<'a> Page<'a> {
 pub fn number_length(value: u32) -> usize
     ensures { (result ≡ length (decimal value)) × (result ≤ 10) }
 {
-    value.max(1).ilog10() as usize + 1
+    let mut left = value;
+    let mut digits = 1;
+    while 10 <= left {
+        left /= 10;
+        digits += 1;
+    }
+    digits
 }

@@ -1,11 +1,11 @@
 -- How long the written text is: line by line, and 2,603 bytes at the most. Assumes nothing.
-use Prim.Native.Nat.{ℕ, zero, suc, ◌+◌, ◌*◌, ◌≤◌}
+use Prim.Native.Nat.{ℕ, zero, suc, ◌+◌, ◌*◌, ◌≤◌, ◌<◌}
 use mathlib.Core.Path.{◌≡◌, refl, sym, ap, ◌∙◌}
 use mathlib.Core.List.{List, [], ◌∷◌, ◌++◌, append_assoc, map}
 use mathlib.Core.Bool.{Bool, true}
 use native.Mathlib.Nat.{mul-suc}
 use native.Mathlib.Omega.{arith}
-use lib.ListN.{length, take, length-append}
+use lib.ListN.{length, get_or, take, drop, length-append}
 use lib.Dec.{leb}
 use borrow.Author.Tests.{leb-true}
 use Rattle.basics.proofs.Tests.{and_left, and_right}
@@ -18,6 +18,7 @@ use Rattle.table.specs.declared.Release.TheVariants.{Once, Every}
 use Rattle.table.specs.declared.Server.{Server}
 use Rattle.table.specs.declared.Task.{Task}
 use Rattle.table.specs.declared.Table.{Table}
+use Rattle.table.proofs.Entries.{entry_next, entry_end}
 use Rattle.table.proofs.Obeyed.{between_high, server_numbers, parts, servers_most, tasks_most, span_most}
 use Rattle.putting.specs.Decimal.{decimal}
 use Rattle.putting.proofs.Decimals.{decimal_below}
@@ -99,6 +100,23 @@ text_length table =
       servers_length (servers_of table),
       tasks_length (tasks_of table),
     )
+
+-- ---- counted entry by entry
+
+module _ {A : Type 0} (fields : A → List (List ℕ)) (xs : List A) (n : ℕ) (h : n ≤ length xs) where
+  -- so many bytes, and the lines from place i on, are all lines
+  abbrev pub Counted : ℕ → ℕ → Type 0
+  Counted m i = m + lines_length fields (drop i (take n xs)) ≡ lines_length fields (take n xs)
+
+  -- one line more
+  pub counted_next : (d : A) (m i : ℕ) {r : ℕ} → i < n → r ≡ line_length (fields (get_or xs i d)) → Counted m i → Counted (m + r) (i + 1)
+  unfolding lines_length
+  counted_next d m i k e c = omega (arith, ap (lines_length fields) (entry_next xs n h d i k))
+
+  -- all
+  pub counted_all : (m i : ℕ) → n ≤ i → Counted m i → m ≡ lines_length fields (take n xs)
+  unfolding lines_length
+  counted_all m i k c = omega (arith, ap (lines_length fields) (entry_end xs n h i k))
 
 -- ---- at the most
 

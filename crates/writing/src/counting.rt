@@ -2,6 +2,7 @@
 // written, so it is not what the writers answer.
 ghost use Rattle.std.specs.Prelude.{◌≡◌, ◌*◌, ◌≤◌, length, map};
 ghost use Rattle.writing.specs.Text.{ended, text_of};
+ghost use Rattle.writing.specs.Lengths.{lines_length};
 
 use crate::line_writer::{Line, field_length};
 use table::Table;
@@ -9,6 +10,7 @@ use table::Table;
 // Of the lines of all servers or of all tasks.
 fn lines_length<T: Line>(entries: &[T]) -> usize
     requires few { length entries.now ≤ 64 }
+    ensures by_fields { result ≡ lines_length T.fields entries.now }
     ensures counted { result ≡ length (ended (map T.line entries.now)) }
     ensures most { result ≤ length entries.now * 61 }
 {

@@ -2,18 +2,23 @@
 ghost use Rattle.std.specs.Prelude.{◌≡◌, ◌+◌, ◌++◌, ◌≤◌, ℕ, List, length};
 ghost use Rattle.putting.specs.Puts.{Put};
 ghost use Rattle.putting.specs.Decimal.{decimal, feed};
-ghost use Rattle.writing.specs.Text.{kind_word, span_line, server_line, task_line};
+ghost use Rattle.writing.specs.Text.{kind_word, server_fields, task_fields, span_line, server_line, task_line};
+ghost use Rattle.writing.specs.Lengths.{line_length};
 
 use putting::{Page, number_length};
 use table::{Kind, Release, Server, Task};
 
 // What has a line in the text: a server or a task.
 pub trait Line: Copy {
+    // its fields
+    ghost fields: { Self → List (List ℕ) };
+
     // its line
     ghost line: { Self → List ℕ };
 
-    // How many bytes the line has with its line feed.
+    // How many bytes the line has with its line feed: each field, and the byte behind it.
     fn length(self) -> usize
+        ensures by_fields { result ≡ line_length (fields self) }
         ensures counted { result ≡ length (line self ++ feed) }
         ensures most { result ≤ 61 };
 
@@ -50,6 +55,8 @@ pub fn put_span(out: &mut [u8], span: u32) -> usize
 }
 
 impl Line for Server {
+    ghost fields = { server_fields };
+
     ghost line = { server_line };
 
     fn length(self) -> usize {
@@ -68,6 +75,8 @@ impl Line for Server {
 }
 
 impl Line for Task {
+    ghost fields = { task_fields };
+
     ghost line = { task_line };
 
     fn length(self) -> usize {

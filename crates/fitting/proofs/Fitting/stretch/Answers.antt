@@ -9,11 +9,11 @@ loop-served-init c = stretching_first c.requires refl refl refl
 pub overflow_sub-length : goal.overflow_sub-length
 overflow_sub-length c = omega (arith, stretching_rises c.loop-served.invariant c.in-len2-up.len_at_least, c.max-start.ensures)
 
-pub returns-then-served-start : goal.returns-then-served-start
-returns-then-served-start c = stretching_gap c.loop-served.invariant c.in-len2-up.len_at_least (rw c.max-start.ensures at c.if-served-start.true)
+pub returns-then-served-start-clause-stretches : goal.returns-then-served-start-clause-stretches
+returns-then-served-start-clause-stretches c = stretching_gap c.loop-served.invariant c.in-len2-up.len_at_least (rw c.max-start.ensures at c.if-served-start.true)
 
-pub returns-then-end-served : goal.returns-then-end-served
-returns-then-end-served c =
+pub returns-then-end-served-clause-stretches : goal.returns-then-end-served-clause-stretches
+returns-then-end-served-clause-stretches c =
     let start = c.max-start.ensures in
     stretching_over c.loop-served.invariant c.in-len2-up.len_at_least (rw start at c.if-served-start.false) (rw start at c.if-end-served.true) refl (rw start) refl
 
@@ -22,5 +22,5 @@ loop-served-preserved c =
     let start = c.max-start.ensures in
     stretching_whole c.loop-served.invariant c.in-len2-up.len_at_least (rw start at c.if-served-start.false) (rw start at c.if-end-served.false) refl refl (rw start)
 
-pub returns : goal.returns
-returns c = stretching_end c.loop-served.invariant c.in_default.len_below
+pub returns-clause-stretches : goal.returns-clause-stretches
+returns-clause-stretches c = stretching_end c.loop-served.invariant c.in_default.len_below

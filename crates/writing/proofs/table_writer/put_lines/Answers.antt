@@ -10,7 +10,8 @@ unfolding ended
 loop-entry-init g c = put_none _ _
 
 pub slice_bounds-put-count : goal.slice_bounds-put-count
-slice_bounds-put-count g c = line_inside g.T.Line.line c.args.entries.now c.loop-entry.entry-index c.requires c.loop-entry.invariant
+slice_bounds-put-count g c =
+    let v = c.loop-entry.invariant in omega (arith, line_inside g.T.Line.line c.args.entries.now c.loop-entry.entry-index c.requires v, v.count)
 
 pub slice_bounds-put-start : goal.slice_bounds-put-start
 slice_bounds-put-start g c = omega (arith, line_inside g.T.Line.line c.args.entries.now c.loop-entry.entry-index c.requires c.loop-entry.invariant)

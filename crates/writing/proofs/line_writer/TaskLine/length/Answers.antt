@@ -14,3 +14,11 @@ pub returns-in-Every-clause-counted : goal.returns-in-Every-clause-counted
 unfolding line_length
 returns-in-Every-clause-counted c =
     let fields = task_length_at c.args.self c.in-Every.is in omega (arith, fields, length-append (task_line c.args.self) feed)
+
+pub returns-in-Once-clause-by_fields : goal.returns-in-Once-clause-by_fields
+unfolding line_length
+returns-in-Once-clause-by_fields c = rw c.in-Once.is (omega arith)
+
+pub returns-in-Every-clause-by_fields : goal.returns-in-Every-clause-by_fields
+unfolding line_length
+returns-in-Every-clause-by_fields c = rw c.in-Every.is (omega arith)
