@@ -49,5 +49,8 @@ pub record NextPart (was next : Input) : Type 0 where
   -- what was held behind the lines before is still held, at the front
   pub rest : was.held ≤ length was.room → 0 < next.lines
       → (was.held - was.lines ≤ next.held) × (take (was.held - was.lines) next.room ≡ take (was.held - was.lines) (drop was.lines was.room))
+  -- at the input's end too, also where no line ends
+  pub rest_last : was.held ≤ length was.room → next.ended ≡ true
+      → (was.held - was.lines ≤ next.held) × (take (was.held - was.lines) next.room ≡ take (was.held - was.lines) (drop was.lines was.room))
   -- where no line ends in a full room, a question mark is all that is held of it
   pub long : next.ended ≡ false → next.lines ≡ 0 → (next.held ≡ 1) × (get_or next.room 0 0 ≡ 63)

@@ -2,18 +2,28 @@
 use Prim.Native.Nat.{ℕ, ◌<◌}
 use mathlib.Core.Path.{◌≡◌, refl, sym, ap, subst, ◌∙◌}
 use mathlib.Core.List.{List}
-use mathlib.Core.Bool.{Bool, true, false}
+use mathlib.Core.Bool.{Bool, true, false, ◌&&◌}
 use native.Mathlib.Omega.{arith}
 use lib.Dec.{leb, eqb}
+use lib.ListN.{length}
 use borrow.Author.Tests.{ne_eqb}
 use Rattle.std.specs.Prelude.{Result, Ok, Err, IfErr, is_ok}
 use Rattle.basics.specs.Choice.{pick}
 use Rattle.refusals.specs.Refusals.{refused_for}
 use Rattle.refusals.specs.declared.Ground.{Ground}
-use Rattle.refusals.specs.declared.Ground.TheVariants.{WorkRoom, OutOfStep}
+use Rattle.refusals.specs.declared.Ground.TheVariants.{ArgumentZero, NotPlain, NoRoom, RulesBroken, WorkRoom, OutOfStep}
 use Rattle.refusals.specs.declared.Refusal.{Refusal}
 use Rattle.refusals.proofs.Numbers.{number_some}
+use Rattle.windows.specs.Windows.{is_plain, add_up, cut_at, fit, provide}
+use Rattle.walks.specs.Rooms.{fits_in}
+use Rattle.fitting.specs.Steps.{fits_all}
+use Rattle.curves.specs.Refusals.{wrote, add_outcome, cut_outcome, provide_outcome, lengths_of, fit_outcome}
+use Rattle.table.specs.Rules.{obeys}
 use Rattle.table.specs.declared.Table.{Table}
+use Rattle.putting.specs.Rooms.{in_room}
+use Rattle.writing.specs.Text.{text_of}
+use Rattle.writing.specs.Writing.{write_outcome}
+use Rattle.reporting.specs.Reporting.{report_for, report_outcome}
 use Rattle.reading.specs.Reading.{reading_of}
 use Rattle.reading.proofs.TurnedAway.{turned_away}
 use Rattle.machine.specs.Machine.{accepts, stepped, step_of}
@@ -40,6 +50,11 @@ module _ {A : Type 0} where
   pub accepted_by_number : (r : Result A Refusal) → Numbered r → is_ok r ≡ eqb (number_in r) 0
   accepted_by_number (Ok a) h = refl
   accepted_by_number (Err refusal) h = sym (ne_eqb refusal.number 0 (λ e. absurd (omega (arith, h, e))))
+
+  -- of two by a test, each such
+  pick_numbered : (b : Bool) (x y : Result A Refusal) → Numbered x → Numbered y → Numbered (pick b x y)
+  pick_numbered true x y h k = h
+  pick_numbered false x y h k = k
 
   refused_numbered : (refused : Bool) (ground : Ground) (a : A) → Numbered (pick refused (Err (refused_for ground)) (Ok a))
   refused_numbered true ground a = number_some ground
@@ -84,6 +99,40 @@ module _ (text : List ℕ) where
   pub analysis_numbered : (room : Bool) → Numbered (analysis_of text room)
   analysis_numbered false = number_some WorkRoom
   analysis_numbered true = answer_numbered (λ table. Ok (analysed table)) (λ table. tt) (reading_of text) (reading_numbered text)
+
+-- ---- and each other call
+
+in_room_numbered : (bytes out : List ℕ) → Numbered (in_room bytes out)
+in_room_numbered bytes out = pick_numbered (leb (length bytes) (length out)) (Ok (length bytes)) _ tt (number_some NoRoom)
+
+pub report_numbered : (text out : List ℕ) → Numbered (report_outcome text out)
+report_numbered text out = in_room_numbered (report_for text) out
+
+pub write_numbered : (table : Table) (out : List ℕ) → Numbered (write_outcome table out)
+write_numbered table out = pick_numbered (obeys table) _ _ (in_room_numbered (text_of table) out) (number_some RulesBroken)
+
+wrote_numbered : (result out : List ℕ) → Numbered (wrote result out)
+wrote_numbered result out = pick_numbered (fits_in result (length out)) (Ok (length result)) _ tt (number_some NoRoom)
+
+pub add_numbered : (a b out : List ℕ) → Numbered (add_outcome a b out)
+add_numbered a b out = pick_numbered (is_plain a && is_plain b) _ _ (wrote_numbered (add_up a b) out) (number_some NotPlain)
+
+module _ (curve : List ℕ) where
+  pub cut_numbered : (period : ℕ) (out : List ℕ) → Numbered (cut_outcome curve period out)
+  cut_numbered period out =
+      pick_numbered (eqb period 0) _ _ (number_some ArgumentZero)
+      (pick_numbered (is_plain curve) _ _ (wrote_numbered (cut_at period curve) out) (number_some NotPlain))
+
+  pub provide_numbered : (amount : ℕ) → Numbered (provide_outcome curve amount)
+  provide_numbered amount =
+      pick_numbered (eqb amount 0) _ _ (number_some ArgumentZero)
+      (pick_numbered (is_plain curve) (Ok (provide curve amount)) _ tt (number_some NotPlain))
+
+pub fit_numbered : (demand supply left served rest : List ℕ) → Numbered (fit_outcome demand supply left served rest)
+fit_numbered demand supply left served rest =
+    let o = fit demand supply in
+    pick_numbered (is_plain demand && is_plain supply) _ _
+    (pick_numbered (fits_all o (length left) (length served) (length rest)) (Ok (lengths_of o)) _ tt (number_some NoRoom)) (number_some NotPlain)
 
 -- ---- the six work buffers, by the number that is handed out
 
