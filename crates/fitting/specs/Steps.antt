@@ -43,7 +43,7 @@ abbrev pub FitGives : Fitting → Option Piece → Type 0
 FitGives w (Some p) = Goes w p
 FitGives w None = fit_ahead w ≡ record { left = []; served = []; rest = [] }
 
--- a curve handed on by its place: from one of its numbers on
+-- a curve handed on by its place: from one of its numbers on, or from its end
 pub record ByPlace (curve ahead : List ℕ) : Type 0 where
   pub place : ℕ
   pub inside : place ≤ length curve

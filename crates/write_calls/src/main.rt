@@ -3,9 +3,9 @@
 //     room span servers tasks server_rows task_rows
 //         kind capacity period ..                          for each row of a server: kind 1 deferrable, 2 periodic
 //         server work kind first period deadline ..        for each row of a task: kind 1 once, 2 every; first is the instant or the offset
-// The buffer has so many bytes, 4,096 at most; servers and tasks are the counts that the table is handed in with, any number. Rows may be fewer than
-// these, and the others are then 0, or more: 16 and 64 at most. The answer is `count n` or `refused number line place`, and behind ` | ` the bytes of the
-// buffer and of the guard of 8 behind it as hexadecimal digits. Byte i was i % 251.
+// The buffer has so many bytes, 4,096 at most; servers and tasks are the counts that the table is handed in with, any number of 32 bits. Rows may be fewer
+// than these, and the others are then 0, or more: 16 and 64 at most. The answer is `count n` or `refused number line place`, and behind ` | ` the bytes of
+// the buffer and of the guard of 8 behind it as hexadecimal digits. Byte i was i % 251.
 // A line that starts with `#` is copied, and a line of any other form is answered by `bad`; so is every line of more than 1,048,576 bytes, its
 // line feed counted. The input may have any length, and its last line needs no line feed.
 #![tactic(auto)]
