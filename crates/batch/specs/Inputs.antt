@@ -1,5 +1,5 @@
 -- Standard input as the programs hold it, part by part at the front of an array.
-use Rattle.std.specs.Prelude.{ℕ, ◌-◌, ◌≤◌, ◌<◌, ◌≡◌, ◌≢◌, List, true, false, length, take, drop, get_or}
+use Rattle.std.specs.Prelude.{ℕ, ◌-◌, ◌≤◌, ◌<◌, ◌≡◌, ◌≢◌, ◌⊎◌, List, true, false, length, take, drop, get_or}
 use Rattle.batch.specs.declared.inputs.Input.{Input}
 
 -- the first n bytes of a text end with a line feed, or there are none
@@ -46,11 +46,8 @@ pub record NextPart (was next : Input) : Type 0 where
   pub behind : (j : ℕ) → next.lines ≤ j → j < next.held → get_or next.room j 0 ≢ 10
   -- at the input's end all is lines
   pub last : next.ended ≡ true → next.lines ≡ next.held
-  -- what was held behind the lines before is still held, at the front
-  pub rest : was.held ≤ length was.room → 0 < next.lines
-      → (was.held - was.lines ≤ next.held) × (take (was.held - was.lines) next.room ≡ take (was.held - was.lines) (drop was.lines was.room))
-  -- at the input's end too, also where no line ends
-  pub rest_last : was.held ≤ length was.room → next.ended ≡ true
+  -- what was held behind the lines before is still held, at the front, where a line ends and at the input's end
+  pub rest : was.held ≤ length was.room → (0 < next.lines) ⊎ (next.ended ≡ true)
       → (was.held - was.lines ≤ next.held) × (take (was.held - was.lines) next.room ≡ take (was.held - was.lines) (drop was.lines was.room))
   -- where no line ends in a full room, a question mark is all that is held of it
   pub long : next.ended ≡ false → next.lines ≡ 0 → (next.held ≡ 1) × (get_or next.room 0 0 ≡ 63)

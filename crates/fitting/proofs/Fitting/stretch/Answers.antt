@@ -15,12 +15,12 @@ returns-then-served-start-clause-stretches c = stretching_gap c.loop-served.inva
 pub returns-then-end-served-clause-stretches : goal.returns-then-end-served-clause-stretches
 returns-then-end-served-clause-stretches c =
     let start = c.max-start.ensures in
-    stretching_over c.loop-served.invariant c.in-len2-up.len_at_least (rw start at c.if-served-start.false) (rw start at c.if-end-served.true) refl (rw start) refl
+    stretching_over c.loop-served.invariant c.in-len2-up.len_at_least (rw start at c.if-served-start.false) (rw start at c.if-end-served.true) refl (omega (arith, start)) refl
 
 pub loop-served-preserved : goal.loop-served-preserved
 loop-served-preserved c =
     let start = c.max-start.ensures in
-    stretching_whole c.loop-served.invariant c.in-len2-up.len_at_least (rw start at c.if-served-start.false) (rw start at c.if-end-served.false) refl refl (rw start)
+    stretching_whole c.loop-served.invariant c.in-len2-up.len_at_least (rw start at c.if-served-start.false) (rw start at c.if-end-served.false) refl refl (omega (arith, start))
 
 pub returns-clause-stretches : goal.returns-clause-stretches
 returns-clause-stretches c = stretching_end c.loop-served.invariant c.in_default.len_below

@@ -15,10 +15,11 @@ pub loop-entry-preserved : goal.loop-entry-preserved
 loop-entry-preserved g c =
     let line = g.T.Line.line in
     let next = lines_next line c.args.entries.now c.entry-item.result c.loop-entry.entry-index c.loop-entry-test.true c.entry-item.is in
+    let fields =
+    counted_next g.T.Line.fields c.args.entries.now (length c.args.entries.now) (omega arith) c.entry-item.result c.loop-entry.n c.loop-entry.entry-index
+    {r = c.length-n.result} c.loop-entry-test.true (rw (← c.entry-item.is) c.length-n.ensures.by_fields) c.loop-entry.invariant.by_fields in
     record {
-      by_fields =
-          counted_next g.T.Line.fields c.args.entries.now (length c.args.entries.now) (omega arith) c.entry-item.result _ c.loop-entry.entry-index
-          c.loop-entry-test.true (rw (← c.entry-item.is) c.length-n.ensures.by_fields) c.loop-entry.invariant.by_fields;
+      by_fields = omega (arith, fields);
       counted = omega (arith, c.loop-entry.invariant.counted, c.length-n.ensures.counted, ap length next, length-append (ended (map line (take c.loop-entry.entry-index c.args.entries.now))) (line c.entry-item.result ++ feed));
       most = omega (arith, c.loop-entry.invariant.most, c.length-n.ensures.most);
       within = omega arith;
