@@ -81,7 +81,6 @@ pub record Stretching (w : Fitting) (from end : ℕ) (o : Stretch) : Type 0 wher
   pub low : from ≤ o.till
   pub high : o.till ≤ end
   pub plain : is_plain (demand_behind o) ≡ true
-  pub demand : ByPlace w.demand.now o.demand.now
   pub first : o.till ≡ from → (o.demand.now ≡ w.demand.now) × (o.wanted ≡ w.wanted)
   pub is : (s : List ℕ) → plain_from (end + 1) s ≡ true
       → fit (demand_ahead w) (from ∷ (end ∷ s)) ≡ open_first from o.till (fit (demand_behind o) (window o.till end s))
@@ -95,7 +94,6 @@ stretching_first {w} {from} {end} {o} p ed ew et =
       low = omega (arith, et);
       high = omega (arith, et);
       plain = rw (ed, ew) p.plain;
-      demand = place_first ed;
       first = λ e. (ed, ew);
       is = λ s h. rw (ed, ew, et, window_some from end s p.below, open_none from (fit (demand_ahead w) (from ∷ (end ∷ s))));
     }
@@ -160,7 +158,6 @@ module _ {w : Fitting} {from end : ℕ} {o : Stretch} (p : Stretching w from end
           low = omega (arith, p.low, et);
           high = omega (arith, p.high, et);
           plain = rw (ed, ew, raise_none (behind o.demand.now)) a.later;
-          demand = place_behind h ed p.demand;
           first = λ x. absurd (omega (arith, p.low, et));
           is = λ s j.
               rw (ed, ew, et, raise_none (behind o.demand.now))
@@ -197,3 +194,20 @@ module _ {w : Fitting} {from end : ℕ} {o : Stretch} (p : Stretching w from end
         used s (no l) =
             let x : o.till ≡ end = omega (arith, p.high) in
             rw x (ap (open_first from end) (stretch_none end starts ends (behind o.demand.now) s))
+
+-- ---- and that demand stands at a place of the curve
+
+pub record Advancing (w : Fitting) (from end : ℕ) (o : Stretch) : Type 0 where
+  pub stretching : Stretching w from end o
+  pub demand : ByPlace w.demand.now o.demand.now
+
+pub advancing_first : {w : Fitting} {from end : ℕ} {o : Stretch} → InStretch w from end → o.demand.now ≡ w.demand.now → o.wanted ≡ w.wanted → o.till ≡ from
+    → Advancing w from end o
+advancing_first p ed ew et = record { stretching = stretching_first p ed ew et; demand = place_first ed }
+
+-- the next demand window is served whole
+pub advancing_whole : {w : Fitting} {from end : ℕ} {o v : Stretch} → Advancing w from end o → 2 ≤ length o.demand.now
+    → max (get_or o.demand.now 0 0) o.wanted ≤ o.till → get_or o.demand.now 1 0 - max (get_or o.demand.now 0 0) o.wanted ≤ end - o.till
+    → v.demand.now ≡ behind o.demand.now → v.wanted ≡ 0 → v.till ≡ o.till + (get_or o.demand.now 1 0 - max (get_or o.demand.now 0 0) o.wanted)
+    → Advancing w from end v
+advancing_whole a h i k ed ew et = record { stretching = stretching_whole a.stretching h i k ed ew et; demand = place_behind h ed a.demand }
