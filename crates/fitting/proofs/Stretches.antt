@@ -206,8 +206,7 @@ pub advancing_first : {w : Fitting} {from end : ℕ} {o : Stretch} → InStretch
 advancing_first p ed ew et = record { stretching = stretching_first p ed ew et; demand = place_first ed }
 
 -- the next demand window is served whole
-pub advancing_whole : {w : Fitting} {from end : ℕ} {o v : Stretch} → Advancing w from end o → 2 ≤ length o.demand.now
-    → max (get_or o.demand.now 0 0) o.wanted ≤ o.till → get_or o.demand.now 1 0 - max (get_or o.demand.now 0 0) o.wanted ≤ end - o.till
-    → v.demand.now ≡ behind o.demand.now → v.wanted ≡ 0 → v.till ≡ o.till + (get_or o.demand.now 1 0 - max (get_or o.demand.now 0 0) o.wanted)
-    → Advancing w from end v
+pub advancing_whole : {w : Fitting} {from end : ℕ} {o v : Stretch} (a : Advancing w from end o) → 2 ≤ length o.demand.now → starts a.stretching ≤ o.till
+    → ends a.stretching - starts a.stretching ≤ end - o.till → v.demand.now ≡ behind o.demand.now → v.wanted ≡ 0
+    → v.till ≡ o.till + (ends a.stretching - starts a.stretching) → Advancing w from end v
 advancing_whole a h i k ed ew et = record { stretching = stretching_whole a.stretching h i k ed ew et; demand = place_behind h ed a.demand }
